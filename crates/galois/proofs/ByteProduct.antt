@@ -1,0 +1,204 @@
+-- The laws of the product of bytes. It is additive in each argument by the narrow laws, so that a law needs only its cases at
+-- powers of two. All but `one-times` hold of any number, which counts as its remainder by 256.
+use mathlib.Core.Path.{_≡_, refl, sym, ap, ap₂, _∙_, subst⁻¹}
+use Prim.Native.Nat.{ℕ, _+_, _*_, _/_, _%_, _^_, _<_}
+use native.Mathlib.Nat.{mod-lt, zero-lt-suc}
+use native.Mathlib.Omega.{arith}
+use lib.Bits.{xor-shr, xor-mod, xor-block, xor-shifted}
+use lib.Arith.{digits-lt}
+use lib.Dec.{lit<}
+use Rattle.galois.specs.Bounded.{every}
+use Rattle.galois.specs.Narrow.{narrow, _⊞_, timesZ, timesBits, _⊠_}
+use Rattle.galois.specs.Byte.{_⊕_, _⊗_, high, low, byte, alpha, eight, widen}
+use Rattle.galois.proofs.Cases.{equal, equal₂, equal₃}
+use Rattle.galois.proofs.NarrowField.{narrows, narrow-plus}
+use Rattle.galois.proofs.Xor.{plus-comm, plus-below, zero-plus, Additive, additive-zero, additive-plus, additive-after, additive-equal}
+
+-- ---- the halves of a byte
+
+pub high-below : (x : ℕ) → high x < 16
+unfolding high
+high-below x = mod-lt (x / 16) (zero-lt-suc 15)
+
+pub low-below : (x : ℕ) → low x < 16
+unfolding low
+low-below x = mod-lt x (zero-lt-suc 15)
+
+high-additive : Additive high
+unfolding high _⊕_
+high-additive x y = ap (λ (q : ℕ). q % 16) (xor-shr x y 4) ∙ xor-mod (x / 16) (y / 16) 4
+
+low-additive : Additive low
+unfolding low _⊕_
+low-additive x y = xor-mod x y 4
+
+byte-additive : (h g l m : ℕ) → l < 16 → m < 16 → byte (h ⊕ g) (l ⊕ m) ≡ byte h l ⊕ byte g m
+unfolding byte _⊕_
+byte-additive h g l m hl hm = sym (xor-block 4 h g l m hl hm)
+
+-- ---- the product, half by half
+
+narrow-times : (a b : ℕ) → a < 16 → b < 16 → a ⊠ b < 16
+narrow-times = narrows .times-below
+
+-- a narrow multiple of an additive function of narrow values is additive
+multiple-additive : (a : ℕ) → a < 16 → (f : ℕ → ℕ) → ((x : ℕ) → f x < 16) → Additive f → Additive (λ x. a ⊠ f x)
+multiple-additive a ha f below add x y =
+    ap (λ (s : ℕ). a ⊠ s) (add x y ∙ sym (narrow-plus (f x) (f y) (below x) (below y)))
+    ∙ narrows .distributes a (f x) (f y) ha (below x) (below y)
+    ∙ narrow-plus (a ⊠ f x) (a ⊠ f y) (narrow-times a (f x) ha (below x)) (narrow-times a (f y) ha (below y))
+
+eight-below : eight < 16
+unfolding eight
+eight-below = lit< tt
+
+-- what stands before α in x ⊗ y, and what stands beside it
+topOf : ℕ → ℕ → ℕ
+topOf x y = high x ⊠ high y ⊕ (high x ⊠ low y ⊕ low x ⊠ high y)
+
+restOf : ℕ → ℕ → ℕ
+restOf x y = eight ⊠ (high x ⊠ high y) ⊕ low x ⊠ low y
+
+module _ (x y : ℕ) where
+  pub high-high : high x ⊠ high y < 16
+  high-high = narrow-times (high x) (high y) (high-below x) (high-below y)
+
+  pub high-low : high x ⊠ low y < 16
+  high-low = narrow-times (high x) (low y) (high-below x) (low-below y)
+
+  pub low-high : low x ⊠ high y < 16
+  low-high = narrow-times (low x) (high y) (low-below x) (high-below y)
+
+  pub low-low : low x ⊠ low y < 16
+  low-low = narrow-times (low x) (low y) (low-below x) (low-below y)
+
+  pub eight-high : eight ⊠ (high x ⊠ high y) < 16
+  eight-high = narrow-times eight (high x ⊠ high y) eight-below high-high
+
+  top-below : topOf x y < 16
+  unfolding topOf
+  top-below =
+      plus-below 4 (high x ⊠ high y) (high x ⊠ low y ⊕ low x ⊠ high y) high-high
+      (plus-below 4 (high x ⊠ low y) (low x ⊠ high y) high-low low-high)
+
+  rest-below : restOf x y < 16
+  unfolding restOf
+  rest-below = plus-below 4 (eight ⊠ (high x ⊠ high y)) (low x ⊠ low y) eight-high low-low
+
+  times-halves : x ⊗ y ≡ byte (topOf x y) (restOf x y)
+  unfolding _⊗_ topOf restOf
+  times-halves =
+      ap₂ byte
+      (narrow-plus (high x ⊠ high y) (high x ⊠ low y ⊞ low x ⊠ high y) high-high
+      (narrows .plus-below (high x ⊠ low y) (low x ⊠ high y) high-low low-high)
+      ∙ ap (λ (s : ℕ). high x ⊠ high y ⊕ s) (narrow-plus (high x ⊠ low y) (low x ⊠ high y) high-low low-high))
+      (narrow-plus (eight ⊠ (high x ⊠ high y)) (low x ⊠ low y) eight-high low-low)
+
+top-additive : (x : ℕ) → Additive (topOf x)
+unfolding topOf
+top-additive x =
+    additive-plus (λ y. high x ⊠ high y) (λ y. high x ⊠ low y ⊕ low x ⊠ high y)
+    (multiple-additive (high x) (high-below x) high high-below high-additive)
+    (additive-plus (λ y. high x ⊠ low y) (λ y. low x ⊠ high y)
+    (multiple-additive (high x) (high-below x) low low-below low-additive)
+    (multiple-additive (low x) (low-below x) high high-below high-additive))
+
+rest-additive : (x : ℕ) → Additive (restOf x)
+unfolding restOf
+rest-additive x =
+    additive-plus (λ y. eight ⊠ (high x ⊠ high y)) (λ y. low x ⊠ low y)
+    (multiple-additive eight eight-below (λ y. high x ⊠ high y) (high-high x)
+    (multiple-additive (high x) (high-below x) high high-below high-additive))
+    (multiple-additive (low x) (low-below x) low low-below low-additive)
+
+-- ---- the laws of the product
+
+pub times-below : (x y : ℕ) → x ⊗ y < 256
+unfolding byte
+times-below x y = subst⁻¹ (λ (p : ℕ). p < 256) (times-halves x y) (digits-lt (top-below x y) (rest-below x y))
+
+pub distributes : (x : ℕ) → Additive (λ y. x ⊗ y)
+distributes x y z =
+    times-halves x (y ⊕ z) ∙ ap₂ byte (top-additive x y z) (rest-additive x y z)
+    ∙ byte-additive (topOf x y) (topOf x z) (restOf x y) (restOf x z) (rest-below x y) (rest-below x z)
+    ∙ sym (ap₂ _⊕_ (times-halves x y) (times-halves x z))
+
+pub times-comm : (x y : ℕ) → x ⊗ y ≡ y ⊗ x
+unfolding topOf restOf
+times-comm x y =
+    let comm = narrows .times-comm in
+    times-halves x y
+    ∙ ap₂ byte
+    (ap₂ _⊕_ (comm (high x) (high y) (high-below x) (high-below y))
+    (ap₂ _⊕_ (comm (high x) (low y) (high-below x) (low-below y)) (comm (low x) (high y) (low-below x) (high-below y))
+    ∙ plus-comm (low y ⊠ high x) (high y ⊠ low x)))
+    (ap₂ _⊕_ (ap (λ (p : ℕ). eight ⊠ p) (comm (high x) (high y) (high-below x) (high-below y)))
+    (comm (low x) (low y) (low-below x) (low-below y)))
+    ∙ sym (times-halves y x)
+
+pub distributes-left : (y : ℕ) → Additive (λ x. x ⊗ y)
+distributes-left y x z =
+    times-comm (x ⊕ z) y ∙ distributes y x z ∙ ap₂ _⊕_ (times-comm y x) (times-comm y z)
+
+pub times-zero : (x : ℕ) → x ⊗ 0 ≡ 0
+times-zero x = additive-zero (λ y. x ⊗ y) (distributes x)
+
+pub zero-times : (x : ℕ) → 0 ⊗ x ≡ 0
+zero-times x = additive-zero (λ y. y ⊗ x) (distributes-left x)
+
+pub one-times : (x : ℕ) → x < 256 → 1 ⊗ x ≡ x
+unfolding every _⊗_ _⊞_ _⊠_ narrow timesBits timesZ high low byte eight
+one-times = additive-equal (λ x. 1 ⊗ x) (λ x. x) (distributes 1) (λ x y. refl) 8 (equal 8 (λ i. 1 ⊗ 2 ^ i) (λ i. 2 ^ i) tt)
+
+-- a factor counts as its remainder by 256
+high-remainder : (x : ℕ) → high x ≡ high (x % 256)
+unfolding high
+high-remainder x = omega arith
+
+low-remainder : (x : ℕ) → low x ≡ low (x % 256)
+unfolding low
+low-remainder x = omega arith
+
+times-remainder : (x y : ℕ) → x ⊗ y ≡ x ⊗ (y % 256)
+unfolding topOf restOf
+times-remainder x y =
+    times-halves x y
+    ∙ ap₂ (λ (h l : ℕ). byte (high x ⊠ h ⊕ (high x ⊠ l ⊕ low x ⊠ h)) (eight ⊠ (high x ⊠ h) ⊕ low x ⊠ l))
+    (high-remainder y) (low-remainder y)
+    ∙ sym (times-halves x (y % 256))
+
+remainder-times : (x y : ℕ) → x ⊗ y ≡ (x % 256) ⊗ y
+remainder-times x y = times-comm x y ∙ times-remainder y x ∙ times-comm y (x % 256)
+
+-- each side of the law of three factors is additive in each factor; so it holds as it does at powers of two
+assoc-powers : (i j k : ℕ) → i < 8 → j < 8 → k < 8 → (2 ^ i ⊗ 2 ^ j) ⊗ 2 ^ k ≡ 2 ^ i ⊗ (2 ^ j ⊗ 2 ^ k)
+unfolding every _⊗_ _⊞_ _⊠_ narrow timesBits timesZ high low byte eight
+assoc-powers = equal₃ 8 (λ i j k. (2 ^ i ⊗ 2 ^ j) ⊗ 2 ^ k) (λ i j k. 2 ^ i ⊗ (2 ^ j ⊗ 2 ^ k)) tt
+
+assoc-third : (i j z : ℕ) → i < 8 → j < 8 → z < 256 → (2 ^ i ⊗ 2 ^ j) ⊗ z ≡ 2 ^ i ⊗ (2 ^ j ⊗ z)
+assoc-third i j z hi hj hz =
+    additive-equal (λ z. (2 ^ i ⊗ 2 ^ j) ⊗ z) (λ z. 2 ^ i ⊗ (2 ^ j ⊗ z)) (distributes (2 ^ i ⊗ 2 ^ j))
+    (additive-after (λ y. 2 ^ i ⊗ y) (λ z. 2 ^ j ⊗ z) (distributes (2 ^ i)) (distributes (2 ^ j))) 8
+    (λ k hk. assoc-powers i j k hi hj hk) z hz
+
+assoc-second : (i y z : ℕ) → i < 8 → y < 256 → z < 256 → (2 ^ i ⊗ y) ⊗ z ≡ 2 ^ i ⊗ (y ⊗ z)
+assoc-second i y z hi hy hz =
+    additive-equal (λ y. (2 ^ i ⊗ y) ⊗ z) (λ y. 2 ^ i ⊗ (y ⊗ z))
+    (additive-after (λ x. x ⊗ z) (λ y. 2 ^ i ⊗ y) (distributes-left z) (distributes (2 ^ i)))
+    (additive-after (λ y. 2 ^ i ⊗ y) (λ y. y ⊗ z) (distributes (2 ^ i)) (distributes-left z)) 8
+    (λ j hj. assoc-third i j z hi hj hz) y hy
+
+assoc-first : (x y z : ℕ) → x < 256 → y < 256 → z < 256 → (x ⊗ y) ⊗ z ≡ x ⊗ (y ⊗ z)
+assoc-first x y z hx hy hz =
+    additive-equal (λ x. (x ⊗ y) ⊗ z) (λ x. x ⊗ (y ⊗ z))
+    (additive-after (λ x. x ⊗ z) (λ x. x ⊗ y) (distributes-left z) (distributes-left y)) (distributes-left (y ⊗ z)) 8
+    (λ i hi. assoc-second i y z hi hy hz) x hx
+
+remainder-below : (x : ℕ) → x % 256 < 256
+remainder-below x = mod-lt x (zero-lt-suc 255)
+
+pub times-assoc : (x y z : ℕ) → (x ⊗ y) ⊗ z ≡ x ⊗ (y ⊗ z)
+times-assoc x y z =
+    times-remainder (x ⊗ y) z ∙ ap (λ (p : ℕ). p ⊗ (z % 256)) (remainder-times x y ∙ times-remainder (x % 256) y)
+    ∙ assoc-first (x % 256) (y % 256) (z % 256) (remainder-below x) (remainder-below y) (remainder-below z)
+    ∙ sym (remainder-times x (y ⊗ z) ∙ ap (λ (p : ℕ). (x % 256) ⊗ p) (remainder-times y z ∙ times-remainder (y % 256) z))

@@ -1,0 +1,9 @@
+-- The laws that the crates above cite.
+pub mod Cases
+pub mod Xor
+pub mod Field
+pub mod NarrowField
+pub mod ByteProduct
+pub mod ByteField
+pub mod Extension
+pub mod Sums

@@ -1,0 +1,62 @@
+// The field of 256 elements: a byte 16h + l means hα + l, with narrow h and l, and α × α = α + 8.
+use crate::narrow::Gf16;
+use crate::tables::RECIPROCALS;
+ghost use mathlib.Core.Path.{_≡_};
+ghost use Rattle.galois.specs.Byte.{_⊕_, _⊗_, reciprocal, quotient, high, low, byte, widen};
+
+// A byte.
+pub struct Gf256(pub u8);
+
+impl Gf256 {
+    pub const ALPHA: Gf256 = Gf256(16);
+
+    pub fn sum(self, other: Gf256) -> Gf256
+        ensures { λ r. ⌜ r .0 ≡ self .0 ⊕ other .0 ⌝ }
+    {
+        Gf256(self.0 ^ other.0)
+    }
+
+    pub fn product(self, other: Gf256) -> Gf256
+        ensures { λ r. ⌜ r .0 ≡ self .0 ⊗ other .0 ⌝ }
+    {
+        let h = self.high();
+        let l = self.low();
+        let g = other.high();
+        let m = other.low();
+        let hg = h.product(g);
+        let top = hg.sum(h.product(m).sum(l.product(g)));
+        let rest = Gf16::EIGHT.product(hg).sum(l.product(m));
+        Gf256::joined(top, rest)
+    }
+
+    pub fn reciprocal(self) -> Gf256
+        ensures { λ r. ⌜ r .0 ≡ reciprocal (self .0) ⌝ }
+    {
+        Gf256(RECIPROCALS[self.0 as usize])
+    }
+
+    pub fn quotient(self, other: Gf256) -> Gf256
+        ensures { λ r. ⌜ r .0 ≡ quotient (self .0) (other .0) ⌝ }
+    {
+        self.product(other.reciprocal())
+    }
+
+    // The h and the l of 16h + l.
+    fn high(self) -> Gf16
+        ensures { λ r. ⌜ r .0 ≡ high (self .0) ⌝ }
+    {
+        Gf16(self.0 / 16)
+    }
+
+    fn low(self) -> Gf16
+        ensures { λ r. ⌜ r .0 ≡ low (self .0) ⌝ }
+    {
+        Gf16(self.0 % 16)
+    }
+
+    fn joined(h: Gf16, l: Gf16) -> Gf256
+        ensures { λ r. ⌜ r .0 ≡ byte (widen (h .0)) (widen (l .0)) ⌝ }
+    {
+        Gf256(h.widen().0 * 16 + l.widen().0)
+    }
+}

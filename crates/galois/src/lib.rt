@@ -1,0 +1,7 @@
+// The two fields of the code: sixteen narrow numbers, and the 256 bytes over them.
+mod byte;
+mod narrow;
+mod tables;
+
+pub use byte::Gf256;
+pub use narrow::Gf16;

@@ -1,0 +1,70 @@
+// The field of sixteen elements: a number 0 to 15 is a polynomial over two elements, modulo z^4 + z + 1.
+use crate::byte::Gf256;
+use crate::tables::NARROW_PRODUCTS;
+use crate::tables::NARROW_RECIPROCALS;
+ghost use mathlib.Core.Path.{_≡_};
+ghost use Rattle.galois.specs.Byte.{widen};
+ghost use Rattle.galois.specs.Narrow.{_⊞_, _⊠_, narrowReciprocal, narrowQuotient};
+
+// A narrow number. An operation that is handed a number above 15 gives 0.
+pub struct Gf16(pub u8);
+
+impl Gf16 {
+    // The 8 of α × α = α + 8.
+    pub const EIGHT: Gf16 = Gf16(8);
+
+    pub fn sum(self, other: Gf16) -> Gf16
+        ensures { λ r. ⌜ r .0 ≡ self .0 ⊞ other .0 ⌝ }
+    {
+        let a = self.0;
+        let b = other.0;
+        if 15 < a {
+            return Gf16(0);
+        }
+        if 15 < b {
+            return Gf16(0);
+        }
+        Gf16(a ^ b)
+    }
+
+    pub fn product(self, other: Gf16) -> Gf16
+        ensures { λ r. ⌜ r .0 ≡ self .0 ⊠ other .0 ⌝ }
+    {
+        let row = self.0;
+        let place = other.0;
+        if 15 < row {
+            return Gf16(0);
+        }
+        if 15 < place {
+            return Gf16(0);
+        }
+        Gf16(NARROW_PRODUCTS[row as usize][place as usize])
+    }
+
+    pub fn reciprocal(self) -> Gf16
+        ensures { λ r. ⌜ r .0 ≡ narrowReciprocal (self .0) ⌝ }
+    {
+        let a = self.0;
+        if 15 < a {
+            return Gf16(0);
+        }
+        Gf16(NARROW_RECIPROCALS[a as usize])
+    }
+
+    pub fn quotient(self, other: Gf16) -> Gf16
+        ensures { λ r. ⌜ r .0 ≡ narrowQuotient (self .0) (other .0) ⌝ }
+    {
+        self.product(other.reciprocal())
+    }
+
+    // The byte that is this narrow number.
+    pub fn widen(self) -> Gf256
+        ensures { λ r. ⌜ r .0 ≡ widen (self .0) ⌝ }
+    {
+        let number = self.0;
+        if 15 < number {
+            return Gf256(0);
+        }
+        Gf256(number)
+    }
+}
