@@ -2,9 +2,14 @@
 use mathlib.Core.Path.{_≡_, refl, subst⁻¹}
 use mathlib.Core.Logic.{⊎-elim}
 use mathlib.Core.List.{List, [], _∷_, List·Memᴰ, List·Memᴰ·cases-cons, List·Memᴰ·not-nil}
-use Rattle.galois.specs.Narrow.{narrow, timesZ, timesBits, _⊞_, _⊠_}
-use Rattle.galois.specs.Byte.{high, low, byte, eight, _⊗_, first, reciprocal}
-use Rattle.figures.specs.Card.{Figure, figures}
+use Rattle.galois.specs.Narrow.{narrow, timesZ, timesBits, _⊞_, _⊠_, narrowReciprocals, narrowReciprocal, narrowQuotient}
+use Rattle.galois.specs.Byte.{_⊕_, high, low, byte, alpha, eight, _⊗_, first, reciprocal, widen}
+use Rattle.galois.specs.Sum.{sum}
+use Rattle.code.specs.Table.{table}
+use Rattle.code.specs.Settings.{delayOf, kOf, nOf, dOf}
+use Rattle.code.specs.Matrix.{point, factor, product, spread, alphaEntry, entry}
+use Rattle.code.specs.Word.{wordAt, multipliers, symbol}
+use Rattle.figures.specs.Card.{Figure, figures, rowOf, parity, unitParities}
 
 -- the rows of a table, one after another
 abbrev Rows : List Figure → Type 0
@@ -19,9 +24,13 @@ from-rows (g ∷ fs) rows f m =
     (λ later. from-rows fs (rows .1) f later)
     (List·Memᴰ·cases-cons m)
 
+-- the first rows are computed
 rows : Rows figures
-unfolding figures _⊠_ _⊞_ narrow timesBits timesZ _⊗_ high low byte eight reciprocal first
-rows = (refl, (refl, (refl, (refl, tt))))
+unfolding figures rowOf parity unitParities table
+    _⊠_ _⊞_ narrow timesBits timesZ narrowQuotient narrowReciprocal narrowReciprocals
+    _⊕_ _⊗_ high low byte eight alpha reciprocal first widen sum
+    delayOf kOf nOf dOf point factor product spread alphaEntry entry wordAt multipliers symbol
+rows = (refl, (refl, (refl, (refl, (refl, (refl, (refl, (refl, tt))))))))
 
 pub every-figure : (f : Figure) → List·Memᴰ f figures → f .given ≡ f .card
 every-figure = from-rows figures rows

@@ -1,11 +1,12 @@
 -- From a test that antt computes over all numbers below a bound to the law at each of them.
-use mathlib.Core.Path.{_≡_, refl, subst⁻¹}
-use mathlib.Core.Bool.{Bool, true, false, cond, _&&_}
-use mathlib.Core.Logic.{_≢_, ⊎-elim}
-use Prim.Native.Nat.{ℕ, zero, suc, _<_}
-use native.Mathlib.Nat.{not-suc-le-zero, le-of-suc-le-suc, eq-or-lt-of-le}
-use lib.Dec.{T, eqb, eqb→eq}
-use Rattle.galois.specs.Bounded.{every}
+use mathlib.Core.Path.{_≡_, refl, subst, subst⁻¹}
+use mathlib.Core.Bool.{Bool, true, false, cond, _&&_, _||_}
+use mathlib.Core.Logic.{_≢_, _⊎_, inl, inr, ⊎-elim}
+use Prim.Native.Nat.{ℕ, zero, suc, _≤_, _<_}
+use native.Mathlib.Nat.{not-suc-le-zero, le-of-suc-le-suc, eq-or-lt-of-le, le-step, lt-suc-self}
+use lib.Dec.{T, leb, eqb, eqb→eq}
+use borrow.Author.Tests.{leb-true, leb-false}
+use Rattle.galois.specs.Bounded.{every, any}
 
 pub and-left : (a b : Bool) → T (a && b) → T a
 and-left true b t = tt
@@ -14,6 +15,22 @@ and-left false b t = t
 pub and-right : (a b : Bool) → T (a && b) → T b
 and-right true b t = t
 and-right false b t = absurd t
+
+pub or-cases : (a b : Bool) → T (a || b) → T a ⊎ T b
+or-cases true b t = inl tt
+or-cases false b t = inr t
+
+pub or-left : (a b : Bool) → T a → T (a || b)
+or-left true b t = tt
+or-left false b t = absurd t
+
+pub or-right : (a b : Bool) → T b → T (a || b)
+or-right true b t = tt
+or-right false b t = t
+
+pub both-pass : (a b : Bool) → T a → T b → T (a && b)
+both-pass true b s t = t
+both-pass false b s t = s
 
 -- a test that passes at each number below m passes at i
 pub at : (m : ℕ) (f : ℕ → Bool) → T (every m f) → (i : ℕ) → i < m → T (f i)
@@ -24,6 +41,28 @@ at (suc m) f t i h =
     (λ same. subst⁻¹ (λ (j : ℕ). T (f j)) same (and-right (every m f) (f m) t))
     (λ below. at m f (and-left (every m f) (f m) t) i below)
     (eq-or-lt-of-le (le-of-suc-le-suc h))
+
+-- a test that passes at some number below m, with that number
+pub any-at : (m : ℕ) (f : ℕ → Bool) → T (any m f) → (i : ℕ) × (i < m) × T (f i)
+unfolding any
+any-at zero f t = absurd t
+any-at (suc m) f t =
+    ⊎-elim (λ before. let found = any-at m f before in (found .0, le-step (found .1), found .2))
+    (λ last. (m, lt-suc-self m, last)) (or-cases (any m f) (f m) t)
+
+-- a test that passes at i passes at some number below m
+pub some-any : (m : ℕ) (f : ℕ → Bool) (i : ℕ) → i < m → T (f i) → T (any m f)
+unfolding any
+some-any zero f i h t = absurd (not-suc-le-zero h)
+some-any (suc m) f i h t =
+    ⊎-elim (λ same. or-right (any m f) (f m) (subst (λ (j : ℕ). T (f j)) same t))
+    (λ below. or-left (any m f) (f m) (some-any m f i below t)) (eq-or-lt-of-le (le-of-suc-le-suc h))
+
+-- and a test that passes at each number below m passes at all of them
+pub all-below : (m : ℕ) (f : ℕ → Bool) → ((i : ℕ) → i < m → T (f i)) → T (every m f)
+unfolding every
+all-below zero f h = tt
+all-below (suc m) f h = both-pass (every m f) (f m) (all-below m f (λ i l. h i (le-step l))) (h m (lt-suc-self m))
 
 -- functions of one, two and three numbers that are equal at all numbers below m
 pub equal : (m : ℕ) (f g : ℕ → ℕ) → T (every m (λ a. eqb (f a) (g a))) → (a : ℕ) → a < m → f a ≡ g a
@@ -48,3 +87,11 @@ equal-but-zero m f g t (suc a) h ne = equal m (λ a. f (suc a)) (λ a. g (suc a)
 pub where-passed : (p : Bool) (x y : ℕ) → (T p → x ≡ y) → x ≡ cond p y x
 where-passed true x y h = h tt
 where-passed false x y h = refl
+
+-- of two numbers, the first is at most the second, or above it
+pub le-or-lt : (m n : ℕ) → (m ≤ n) ⊎ (n < m)
+le-or-lt m n = go (leb m n) refl
+  where
+    go : (t : Bool) → leb m n ≡ t → (m ≤ n) ⊎ (n < m)
+    go true e = inl (leb-true m n e)
+    go false e = inr (leb-false m n e)

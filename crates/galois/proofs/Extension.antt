@@ -1,15 +1,16 @@
 -- The narrow numbers among the bytes: widening, α, and every byte as a + αb for one pair of narrow a and b.
-use mathlib.Core.Path.{_≡_, refl, sym, ap, ap₂, _∙_}
-use mathlib.Core.Bool.{Bool, true, false, cond}
+use mathlib.Core.Path.{_≡_, refl, sym, ap, ap₂, _∙_, subst}
+use mathlib.Core.Bool.{Bool, true, false, cond, not, _&&_, _||_}
+use mathlib.Core.Logic.{⊎-elim}
 use Prim.Native.Nat.{ℕ, _+_, _*_, _<_}
 use native.Mathlib.Omega.{arith}
 use lib.Bits.{xor-shifted}
-use lib.Dec.{ltb, lit<}
+use lib.Dec.{T, T-not, eqb, ltb, eqb→eq, eqb-refl, lit<}
 use borrow.Author.Tests.{lt-ltb, le-ltb, ltb-true}
 use Rattle.galois.specs.Bounded.{every}
 use Rattle.galois.specs.Byte.{_⊕_, _⊗_, high, low, byte, alpha, eight, widen}
 use Rattle.galois.specs.Narrow.{narrow, _⊞_, timesZ, timesBits, _⊠_}
-use Rattle.galois.proofs.Cases.{equal, equal₂}
+use Rattle.galois.proofs.Cases.{and-left, and-right, or-cases, at, equal, equal₂}
 use Rattle.galois.proofs.ByteProduct.{high-below, low-below, high-high, high-low, low-high, low-low, eight-high}
 use Rattle.galois.proofs.NarrowField.{narrows}
 use Rattle.galois.proofs.Xor.{plus-comm}
@@ -77,3 +78,23 @@ pub byte-parts-unique : (a b c d : ℕ) → a < 16 → b < 16 → c < 16 → d <
 byte-parts-unique a b c d ha hb hc hd e =
     let same : b * 16 + a ≡ d * 16 + c = sym (narrow-byte a b ha hb) ∙ e ∙ narrow-byte c d hc hd in
     (omega arith, omega arith)
+
+-- ---- the norm of a + αb is 0 at 0 only
+
+-- the two sides differ, or a and b are 0
+normTest : ℕ → ℕ → Bool
+normTest a b = not (eqb (a ⊗ (a ⊕ b)) (b ⊗ (eight ⊗ b))) || (eqb a 0 && eqb b 0)
+
+norm-passed : (a b : ℕ) → a < 16 → b < 16 → T (normTest a b)
+unfolding normTest every _⊗_ _⊞_ _⊠_ narrow timesBits timesZ high low byte eight _⊕_
+norm-passed a b ha hb = at 16 (normTest a) (at 16 (λ a. every 16 (normTest a)) tt a ha) b hb
+
+-- a × (a + b) = 8 × b × b only for a = b = 0
+pub norm-zero : (a b : ℕ) → a < 16 → b < 16 → a ⊗ (a ⊕ b) ≡ b ⊗ (eight ⊗ b) → (a ≡ 0) × (b ≡ 0)
+unfolding normTest
+norm-zero a b ha hb e =
+    let x : ℕ = a ⊗ (a ⊕ b) in
+    let y : ℕ = b ⊗ (eight ⊗ b) in
+    ⊎-elim (λ differ. absurd (T-not (eqb x y) differ (subst (λ (z : ℕ). T (eqb x z)) e (eqb-refl x))))
+    (λ both. (eqb→eq a 0 (and-left (eqb a 0) (eqb b 0) both), eqb→eq b 0 (and-right (eqb a 0) (eqb b 0) both)))
+    (or-cases (not (eqb x y)) (eqb a 0 && eqb b 0) (norm-passed a b ha hb))

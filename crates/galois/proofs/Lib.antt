@@ -7,3 +7,4 @@ pub mod ByteProduct
 pub mod ByteField
 pub mod Extension
 pub mod Sums
+pub mod Counting

@@ -1,6 +1,6 @@
 -- The narrow numbers are a field. Each law is computed, over all of its cases.
 use mathlib.Core.Path.{_≡_, sym, _∙_, subst⁻¹}
-use mathlib.Core.Bool.{Bool, cond, not}
+use mathlib.Core.Bool.{Bool, cond, not, and-false}
 use mathlib.Core.Logic.{_≢_}
 use mathlib.Core.List.{List, []}
 use Prim.Native.Nat.{ℕ, zero, suc, _<_}
@@ -58,6 +58,11 @@ above-left a b r h = rw (le-ltb a 16 h)
 pub above-right : (a b r : ℕ) → a < 16 → 15 < b → narrow a b r ≡ 0
 unfolding narrow
 above-right a b r ha hb = rw (lt-ltb a 16 ha, le-ltb b 16 hb)
+
+-- a sum with a number above 15 is 0
+pub plus-above : (a b : ℕ) → 15 < b → a ⊞ b ≡ 0
+unfolding _⊞_ narrow
+plus-above a b h = rw (le-ltb b 16 h, and-false (ltb a 16))
 
 pub both-narrow : (a b r : ℕ) → a < 16 → b < 16 → narrow a b r ≡ r
 unfolding narrow

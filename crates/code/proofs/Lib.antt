@@ -1,0 +1,10 @@
+-- The laws that the crates above cite.
+pub mod Tables
+pub mod Shape
+pub mod Products
+pub mod Rows
+pub mod Entries
+pub mod Words
+pub mod Symbols
+pub mod BackSubstitution
+pub mod Fits

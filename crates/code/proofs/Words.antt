@@ -1,0 +1,110 @@
+-- Words: they add and scale, their first k positions are triangular in the multipliers, and so determine them.
+use mathlib.Core.Path.{_≡_, sym, ap, _∙_}
+use mathlib.Core.Logic.{⊎-elim}
+use Prim.Native.Nat.{ℕ, zero, suc, _+_, _-_, _≤_, _<_}
+use native.Mathlib.Nat.{eq-or-lt-of-le, le-of-suc-le-suc, le-of-lt, le-step, lt-suc-self, not-suc-le-zero}
+use native.Mathlib.Omega.{arith}
+use Rattle.galois.specs.Byte.{_⊕_, _⊗_}
+use Rattle.galois.specs.Sum.{sum}
+use Rattle.galois.proofs.Xor.{plus-below, plus-zero, zero-plus, plus-self, plus-cancel}
+use Rattle.galois.proofs.ByteProduct.{times-below, times-comm, times-assoc, times-zero, zero-times, one-times, distributes-left}
+use Rattle.galois.proofs.Sums.{sum-equal, sum-zeros, sum-below, sum-plus, sum-split, multiple-of-sum}
+use Rattle.code.specs.declared.settings.Settings.{Settings}
+use Rattle.code.specs.Settings.{kOf}
+use Rattle.code.specs.Matrix.{entry}
+use Rattle.code.specs.Word.{wordAt}
+use Rattle.code.proofs.Shape.{Shape}
+use Rattle.code.proofs.Entries.{entry-zero-low, entry-one}
+
+-- ---- words add and scale
+
+module _ (s : Settings) where
+  -- the word of a sum of multipliers is the sum of the words
+  pub wordAt-plus : (u v : ℕ → ℕ) (p : ℕ) → wordAt s (λ r. u r ⊕ v r) p ≡ wordAt s u p ⊕ wordAt s v p
+  unfolding wordAt
+  wordAt-plus u v p =
+      sum-equal (kOf s) (λ r. (u r ⊕ v r) ⊗ entry s r p) (λ r. u r ⊗ entry s r p ⊕ v r ⊗ entry s r p)
+      (λ r _. distributes-left (entry s r p) (u r) (v r))
+      ∙ sum-plus (kOf s) (λ r. u r ⊗ entry s r p) (λ r. v r ⊗ entry s r p)
+
+  -- the word of a multiple of the multipliers is that multiple of the word
+  pub wordAt-times : (c : ℕ) (u : ℕ → ℕ) (p : ℕ) → wordAt s (λ r. c ⊗ u r) p ≡ c ⊗ wordAt s u p
+  unfolding wordAt
+  wordAt-times c u p =
+      sum-equal (kOf s) (λ r. (c ⊗ u r) ⊗ entry s r p) (λ r. c ⊗ (u r ⊗ entry s r p))
+      (λ r _. times-assoc c (u r) (entry s r p))
+      ∙ sym (multiple-of-sum c (kOf s) (λ r. u r ⊗ entry s r p))
+
+  -- multipliers that are equal below k make equal words
+  pub wordAt-equal : (u v : ℕ → ℕ) → ((r : ℕ) → r < kOf s → u r ≡ v r) → (p : ℕ) → wordAt s u p ≡ wordAt s v p
+  unfolding wordAt
+  wordAt-equal u v e p =
+      sum-equal (kOf s) (λ r. u r ⊗ entry s r p) (λ r. v r ⊗ entry s r p)
+      (λ r hr. ap (λ (x : ℕ). x ⊗ entry s r p) (e r hr))
+
+  -- multipliers that are 0 below k make the word 0
+  pub wordAt-zeros : (u : ℕ → ℕ) → ((r : ℕ) → r < kOf s → u r ≡ 0) → (p : ℕ) → wordAt s u p ≡ 0
+  unfolding wordAt
+  wordAt-zeros u e p =
+      sum-zeros (kOf s) (λ r. u r ⊗ entry s r p)
+      (λ r hr. ap (λ (x : ℕ). x ⊗ entry s r p) (e r hr) ∙ zero-times (entry s r p))
+
+  -- a symbol of a word is a byte
+  pub wordAt-below : (u : ℕ → ℕ) (p : ℕ) → wordAt s u p < 256
+  unfolding wordAt
+  wordAt-below u p = sum-below 8 (kOf s) (λ r. u r ⊗ entry s r p) (λ r _. times-below (u r) (entry s r p))
+
+-- ---- the first k positions are triangular
+
+-- a sum whose terms from m on are 0
+sum-prefix : (m n : ℕ) (f : ℕ → ℕ) → m ≤ n → ((i : ℕ) → m ≤ i → i < n → f i ≡ 0) → sum n f ≡ sum m f
+sum-prefix m n f h e =
+    let rest : n ≡ m + (n - m) = omega arith in
+    ap (λ (k : ℕ). sum k f) rest ∙ sum-split m (n - m) f
+    ∙ ap (λ (x : ℕ). sum m f ⊕ x) (sum-zeros (n - m) (λ i. f (m + i)) (λ i hi. e (m + i) (omega arith) (omega arith)))
+    ∙ plus-zero (sum m f)
+
+module _ (s : Settings) (h : Shape s) where
+  -- symbol p is what the rows above row p give at position p, and the multiplier of row p
+  pub word-triangular : (u : ℕ → ℕ) → ((r : ℕ) → u r < 256) → (p : ℕ) → p < kOf s
+      → wordAt s u p ≡ sum p (λ r. u r ⊗ entry s r p) ⊕ u p
+  unfolding wordAt sum
+  word-triangular u b p hp =
+      sum-prefix (suc p) (kOf s) (λ r. u r ⊗ entry s r p) hp
+      (λ r low high. ap (λ (x : ℕ). u r ⊗ x) (entry-zero-low s h r p high low) ∙ times-zero (u r))
+      ∙ ap (λ (x : ℕ). sum p (λ r. u r ⊗ entry s r p) ⊕ x)
+      (ap (λ (x : ℕ). u p ⊗ x) (entry-one s h p hp) ∙ times-comm (u p) 1 ∙ one-times (u p) (b p))
+
+  -- ---- the first symbols determine the multipliers
+
+  -- where the first i symbols are 0, so are the first i multipliers
+  pub zero-multipliers : (u : ℕ → ℕ) → ((r : ℕ) → u r < 256) → (i : ℕ) → i ≤ kOf s
+      → ((p : ℕ) → p < i → wordAt s u p ≡ 0) → (r : ℕ) → r < i → u r ≡ 0
+  zero-multipliers u b zero hi e r hr = absurd (not-suc-le-zero hr)
+  zero-multipliers u b (suc i) hi e r hr =
+      let before : (q : ℕ) → q < i → u q ≡ 0 = zero-multipliers u b i (le-of-lt hi) (λ p hp. e p (le-step hp)) in
+      ⊎-elim
+      (λ same.
+      ap u same
+      ∙ sym
+      (word-triangular u b i hi
+      ∙ ap (λ (x : ℕ). x ⊕ u i)
+      (sum-zeros i (λ q. u q ⊗ entry s q i)
+      (λ q hq. ap (λ (x : ℕ). x ⊗ entry s q i) (before q hq) ∙ zero-times (entry s q i)))
+      ∙ zero-plus (u i))
+      ∙ e i (lt-suc-self i))
+      (λ below. before r below)
+      (eq-or-lt-of-le (le-of-suc-le-suc hr))
+
+  -- words with the same first k symbols have the same multipliers
+  pub word-unique : (u v : ℕ → ℕ) → ((r : ℕ) → u r < 256) → ((r : ℕ) → v r < 256)
+      → ((p : ℕ) → p < kOf s → wordAt s u p ≡ wordAt s v p) → (r : ℕ) → r < kOf s → u r ≡ v r
+  word-unique u v bu bv e r hr =
+      plus-cancel (u r) (v r)
+      (zero-multipliers (λ r. u r ⊕ v r) (λ r. plus-below 8 (u r) (v r) (bu r) (bv r)) (kOf s) (omega arith)
+      (λ p hp. wordAt-plus s u v p ∙ ap (λ (x : ℕ). x ⊕ wordAt s v p) (e p hp) ∙ plus-self (wordAt s v p)) r hr)
+
+  -- and so are equal at every position
+  pub word-equal : (u v : ℕ → ℕ) → ((r : ℕ) → u r < 256) → ((r : ℕ) → v r < 256)
+      → ((p : ℕ) → p < kOf s → wordAt s u p ≡ wordAt s v p) → (p : ℕ) → wordAt s u p ≡ wordAt s v p
+  word-equal u v bu bv e = wordAt-equal s u v (word-unique u v bu bv e)

@@ -1,0 +1,10 @@
+// The code: settings, the generator matrix, and its systematic form.
+mod encoder;
+mod matrix;
+mod settings;
+
+pub use encoder::systematic;
+pub use matrix::entry;
+pub use matrix::generator;
+pub use matrix::spread_product;
+pub use settings::Settings;

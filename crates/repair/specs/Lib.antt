@@ -1,0 +1,3 @@
+-- What the theorems on repair are about.
+pub mod Polynomial
+pub mod Fair
