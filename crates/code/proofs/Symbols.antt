@@ -1,10 +1,10 @@
 -- The word of a choice of the first k symbols: its multipliers, that it begins with that choice, and that it is the only one.
-use mathlib.Core.Path.{_≡_, refl, sym, ap, _∙_, subst⁻¹}
+use mathlib.Core.Path.{_≡_, refl, sym, ap, ap₂, _∙_, subst⁻¹}
 use mathlib.Core.Bool.{Bool, true, false}
 use mathlib.Core.Logic.{⊎-elim}
-use mathlib.Core.List.{[]}
+use mathlib.Core.List.{List, [], _∷_, _++_}
 use Prim.Native.Nat.{ℕ, zero, suc, _≤_, _<_}
-use native.Mathlib.Nat.{eq-or-lt-of-le, le-of-suc-le-suc, le-of-lt, lt-suc-self, lt-of-lt-of-le}
+use native.Mathlib.Nat.{eq-or-lt-of-le, le-of-suc-le-suc, le-of-lt, le-step, lt-suc-self, lt-of-lt-of-le}
 use native.Mathlib.Numerals.{add-one}
 use native.Mathlib.Omega.{arith}
 use lib.Dec.{ltb, lit<}
@@ -85,6 +85,19 @@ module _ (s : Settings) (x : ℕ → ℕ) where
 pub symbol-below : (s : Settings) (x : ℕ → ℕ) (p : ℕ) → symbol s x p < 256
 unfolding symbol
 symbol-below s x p = wordAt-below s (λ r. getD (multipliers s x (kOf s)) r 0) p
+
+-- the first m multipliers read only the first m symbols
+multipliers-equal : (s : Settings) (x y : ℕ → ℕ) (m : ℕ) → ((r : ℕ) → r < m → x r ≡ y r) → multipliers s x m ≡ multipliers s y m
+unfolding multipliers
+multipliers-equal s x y zero e = refl
+multipliers-equal s x y (suc m) e =
+    ap₂ (λ (u : List ℕ) (a : ℕ). u ++ ((a ⊕ sum m (λ r. getD u r 0 ⊗ entry s r m)) ∷ []))
+    (multipliers-equal s x y m (λ r h. e r (le-step h))) (e m (lt-suc-self m))
+
+-- choices of symbols that are equal below k have the same word
+pub symbol-equal : (s : Settings) (x y : ℕ → ℕ) → ((r : ℕ) → r < kOf s → x r ≡ y r) → (p : ℕ) → symbol s x p ≡ symbol s y p
+unfolding symbol
+symbol-equal s x y e p = ap (λ (u : List ℕ). wordAt s (λ r. getD u r 0) p) (multipliers-equal s x y (kOf s) e)
 
 module _ (s : Settings) (h : Shape s) where
   -- existence: the word begins with the choice of its first k symbols

@@ -8,6 +8,14 @@ use lib.Dec.{T, leb, eqb, eqb→eq}
 use borrow.Author.Tests.{leb-true, leb-false}
 use Rattle.galois.specs.Bounded.{every, any}
 
+pub is-true : (a : Bool) → T a → a ≡ true
+is-true true t = refl
+is-true false t = absurd t
+
+pub is-false : (a : Bool) → (T a → ⊥) → a ≡ false
+is-false true never = absurd (never tt)
+is-false false never = refl
+
 pub and-left : (a b : Bool) → T (a && b) → T a
 and-left true b t = tt
 and-left false b t = t
@@ -57,6 +65,26 @@ some-any zero f i h t = absurd (not-suc-le-zero h)
 some-any (suc m) f i h t =
     ⊎-elim (λ same. or-right (any m f) (f m) (subst (λ (j : ℕ). T (f j)) same t))
     (λ below. or-left (any m f) (f m) (some-any m f i below t)) (eq-or-lt-of-le (le-of-suc-le-suc h))
+
+-- so the test of all numbers below m is true where one passes, and false where none does
+pub any-one : (m : ℕ) (f : ℕ → Bool) (i : ℕ) → i < m → T (f i) → any m f ≡ true
+any-one m f i h t = is-true (any m f) (some-any m f i h t)
+
+pub any-none : (m : ℕ) (f : ℕ → Bool) → ((i : ℕ) → i < m → T (f i) → ⊥) → any m f ≡ false
+any-none m f none = is-false (any m f) (λ t. let found = any-at m f t in none (found .0) (found .1) (found .2))
+
+by-last : (m : ℕ) (f : ℕ → Bool) (b : Bool) → f m ≡ b → ((i : ℕ) → i < m → T (f i))
+    → ((i : ℕ) → i < suc m → T (f i)) ⊎ ((i : ℕ) × (i < suc m) × (f i ≡ false))
+by-last m f true e below =
+    inl (λ i h.
+    ⊎-elim (λ same. subst⁻¹ (λ (j : ℕ). T (f j)) same (subst⁻¹ T e tt)) (λ less. below i less) (eq-or-lt-of-le (le-of-suc-le-suc h)))
+by-last m f false e below = inr (m, lt-suc-self m, e)
+
+-- a test passes at each number below m, or fails at one
+pub all-or-one : (m : ℕ) (f : ℕ → Bool) → ((i : ℕ) → i < m → T (f i)) ⊎ ((i : ℕ) × (i < m) × (f i ≡ false))
+all-or-one zero f = inl (λ i h. absurd (not-suc-le-zero h))
+all-or-one (suc m) f =
+    ⊎-elim (λ below. by-last m f (f m) refl below) (λ found. inr (found .0, le-step (found .1), found .2)) (all-or-one m f)
 
 -- and a test that passes at each number below m passes at all of them
 pub all-below : (m : ℕ) (f : ℕ → Bool) → ((i : ℕ) → i < m → T (f i)) → T (every m f)

@@ -13,3 +13,4 @@ pub mod BurstLoss
 pub mod ScatteredLoss
 pub mod OneCodeword
 pub mod Window
+pub mod FairExample

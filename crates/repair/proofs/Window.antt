@@ -11,7 +11,7 @@ use borrow.Author.Tests.{le-leb}
 use Rattle.galois.specs.Bounded.{any}
 use Rattle.galois.specs.Byte.{_⊕_}
 use Rattle.galois.proofs.Cases.{and-left, and-right, or-cases, at, any-at}
-use Rattle.galois.proofs.Counting.{count-equal}
+use Rattle.galois.proofs.Counting.{count-all, count-equal}
 use Rattle.galois.proofs.Xor.{plus-below, plus-self, plus-cancel}
 use Rattle.code.specs.declared.settings.Settings.{Settings}
 use Rattle.code.specs.Settings.{delayOf, kOf, nOf}
@@ -150,7 +150,7 @@ pub window : (s : Settings) → Shape s → (t i : ℕ) → i < kOf s → (lost 
     → ((p : ℕ) → p < nOf s → p ≤ i + delayOf s → T (not (lostPosition lost t i p)) → wordAt s u p ≡ wordAt s v p)
     → (p : ℕ) → p ≤ i → wordAt s u p ≡ wordAt s v p
 window s shape t i hi lost fair =
-    window-within s shape t i hi lost (λ a m from to size. fair-within s lost a m (fair a m from to size))
+    window-within s shape t i hi lost (λ a m from to size. fair-within s lost a m (fair a m from to (omega arith)))
 
 -- two words that fit what arrived, every position heard among it, agree at the message's symbol
 pub window-fits : (s : Settings) → Shape s → (t i : ℕ) → i < kOf s → (lost : ℕ → Bool)
@@ -161,3 +161,14 @@ pub window-fits : (s : Settings) → Shape s → (t i : ℕ) → i < kOf s → (
 window-fits s shape t i hi lost fair a heard u v hu hv fu fv =
     window s shape t i hi lost fair u v hu hv
     (λ p hp to h. fits-at s a u p hp fu (heard p hp to h) ∙ sym (fits-at s a v p hp fv (heard p hp to h))) i (omega arith)
+
+-- ---- T + 1 slots in a row
+
+-- of T + 1 slots in a row, where they are fair, not all are lost
+pub not-all-lost : (s : Settings) → Shape s → (lost : ℕ → Bool) (t : ℕ) → T (fairStretch s lost t (delayOf s + 1))
+    → ((x : ℕ) → x < delayOf s + 1 → T (lost (t + x))) → ⊥
+unfolding losses
+not-all-lost s h lost t fair all =
+    ⊎-elim (λ few. omega (arith, count-all (delayOf s + 1) (λ x. lost (t + x)) all))
+    (λ run. omega (arith, run .1 0 (omega arith) (all 0 (omega arith)), run .1 (delayOf s) (omega arith) (all (delayOf s) (omega arith))))
+    (fair-within s lost t (delayOf s + 1) fair)

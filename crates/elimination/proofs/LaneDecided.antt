@@ -1,0 +1,52 @@
+-- Demand 2, for one lane: what elimination says of a position is what the fitting words say of it.
+use mathlib.Core.Path.{_≡_, refl, sym, ap, _∙_, subst⁻¹}
+use mathlib.Core.Bool.{Bool, true, false, not}
+use mathlib.Core.List.{List}
+use Prim.Native.Nat.{ℕ, _<_}
+use lib.Dec.{T}
+use lib.ListN.{getD}
+use Rattle.galois.proofs.Cases.{is-true}
+use Rattle.code.specs.declared.settings.Settings.{Settings}
+use Rattle.code.specs.Fitting.{Arrived}
+use Rattle.code.specs.Settings.{accepted, nOf}
+use Rattle.code.proofs.Shape.{Shape, shape}
+use Rattle.elimination.specs.declared.lane.Symbol.the-variants.{Whole}
+use Rattle.elimination.specs.Elimination.{Reduced, eliminated, clashes, differs, symbolOf, knownIn, reducedOf, laneSymbol}
+use Rattle.elimination.specs.Values.{values, said}
+use Rattle.elimination.proofs.Decided.{decided-clash, decided-shared, decided-fits, decided-differs}
+use Rattle.elimination.proofs.ValueLaws.{said-clash, said-lost, said-whole}
+use Rattle.elimination.proofs.Reductions.{reduced-accepted}
+use Rattle.elimination.proofs.Answers.{symbol-clash, symbol-lost, symbol-whole, answer-inside}
+
+-- elimination over what arrived says what the fitting words say
+pub symbol-decided : (s : Settings) → Shape s → (a : Arrived) → ((p : ℕ) → a .byte p < 256) → (i : ℕ) → i < nOf s
+    → symbolOf s (eliminated s (a .known)) (a .known) (a .byte) i ≡ said (values s a i)
+symbol-decided s h a hb i hi =
+    go (clashes s (eliminated s (a .known)) (a .known) (a .byte)) (differs s (eliminated s (a .known)) i) refl refl
+  where
+    go : (c d : Bool) → clashes s (eliminated s (a .known)) (a .known) (a .byte) ≡ c → differs s (eliminated s (a .known)) i ≡ d
+        → symbolOf s (eliminated s (a .known)) (a .known) (a .byte) i ≡ said (values s a i)
+    go true d clash _ =
+        symbol-clash s (eliminated s (a .known)) (a .known) (a .byte) i clash
+        ∙ sym (said-clash s a i (decided-clash s h a (subst⁻¹ T clash tt)))
+    go false true clear differ =
+        let two = decided-differs s h a hb (subst⁻¹ (λ (b : Bool). T (not b)) clear tt) i hi (subst⁻¹ T differ tt) in
+        symbol-lost s (eliminated s (a .known)) (a .known) (a .byte) i clear differ
+        ∙ sym (said-lost s a i (two .0) (two .1) (two .2) (two .3) (two .4) (two .5) (two .6))
+    go false false clear same =
+        let one = decided-fits s h a hb (subst⁻¹ (λ (b : Bool). T (not b)) clear tt) in
+        symbol-whole s (eliminated s (a .known)) (a .known) (a .byte) i clear same
+        ∙ ap Whole (sym (one .3 i hi))
+        ∙ sym
+        (said-whole s a i (one .0) (one .1) (one .2)
+        (λ v hv fv. decided-shared s h a i hi (subst⁻¹ (λ (b : Bool). T (not b)) same tt) v hv fv ∙ sym (one .3 i hi)))
+
+-- what a lane is told of a position of the word is what the words that fit its known bytes say of it
+pub decided : (s : Settings) → T (accepted s) → (flags bytes : List ℕ) → ((p : ℕ) → getD bytes p 0 < 256)
+    → (i : ℕ) → i < nOf s
+    → laneSymbol s (reducedOf s flags) flags bytes i
+    ≡ said (values s (record { known = knownIn s flags; byte = λ p. getD bytes p 0 }) i)
+decided s t flags bytes hb i hi =
+    ap (λ (x : Reduced). laneSymbol s x flags bytes i) (sym (reduced-accepted s flags (is-true (accepted s) t)))
+    ∙ sym (answer-inside s (eliminated s (knownIn s flags)) flags bytes i (is-true (accepted s) t) hi)
+    ∙ symbol-decided s (shape s t) (record { known = knownIn s flags; byte = λ p. getD bytes p 0 }) hb i hi

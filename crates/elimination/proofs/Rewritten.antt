@@ -1,0 +1,46 @@
+-- One column step on the lists: what each row becomes.
+use mathlib.Core.Path.{_≡_, refl, ap, _∙_}
+use mathlib.Core.Bool.{Bool, true, false, cond}
+use mathlib.Core.List.{List, []}
+use Prim.Native.Nat.{ℕ, _<_}
+use borrow.Author.Tests.{lt-ltb, le-ltb}
+use lib.Dec.{eqb}
+use lib.ListN.{getD, set}
+use Rattle.galois.specs.Byte.{_⊕_, _⊗_, quotient}
+use Rattle.code.specs.Table.{table}
+use Rattle.code.proofs.Tables.{getD-table, table-equal}
+use Rattle.elimination.specs.Elimination.{Reduced, cell, scaledAt, cleared, pivotFrom, pivoted, columnStep}
+
+-- row q once row r is the pivot of position p
+abbrev pub clearedRow : List (List ℕ) → ℕ → ℕ → ℕ → List ℕ
+clearedRow m r p q = table 16 (λ j. cond (eqb q r) (scaledAt m r p j) (cell m q j ⊕ cell m q p ⊗ scaledAt m r p j))
+
+-- by the scaled pivot: it is that row where q is r, and else the row with position p cleared by it
+pub row-cleared : (m : List (List ℕ)) (r p q : ℕ) (b : Bool) → eqb q r ≡ b
+    → cond b (table 16 (scaledAt m r p))
+    (table 16 (λ j. cell m q j ⊕ cell m q p ⊗ getD (table 16 (scaledAt m r p)) j 0))
+    ≡ clearedRow m r p q
+row-cleared m r p q true e = rw e refl
+row-cleared m r p q false e =
+    rw e
+    (table-equal 16 (λ j. cell m q j ⊕ cell m q p ⊗ getD (table 16 (scaledAt m r p)) j 0)
+    (λ j. cell m q j ⊕ cell m q p ⊗ scaledAt m r p j)
+    (λ j h. ap (λ (x : ℕ). cell m q j ⊕ cell m q p ⊗ x) (getD-table 16 (scaledAt m r p) j 0 h)))
+
+-- ---- one position
+
+-- an unknown position changes nothing
+pub unknown-step : (k p : ℕ) (x : Reduced) (b : Bool) → b ≡ false → x ≡ columnStep k b p x
+unfolding columnStep
+unknown-step k p x b e = rw (e, columnStep)
+
+-- nor does one for which no row can be the pivot
+pub no-pivot-step : (k p : ℕ) (x : Reduced) (b : Bool) → b ≡ true → 15 < pivotFrom x p 0 k → x ≡ columnStep k b p x
+unfolding columnStep pivoted
+no-pivot-step k p x b e h = rw (e, columnStep, le-ltb (pivotFrom x p 0 k) 16 h, pivoted)
+
+-- else its pivot clears the column and takes the role
+pub pivot-step : (k p : ℕ) (x : Reduced) (b : Bool) → b ≡ true → pivotFrom x p 0 k < 16
+    → record { rows = cleared (x .rows) (pivotFrom x p 0 k) p; roles = set (x .roles) (pivotFrom x p 0 k) p } ≡ columnStep k b p x
+unfolding columnStep pivoted
+pivot-step k p x b e h = rw (e, columnStep, lt-ltb (pivotFrom x p 0 k) 16 h, pivoted)

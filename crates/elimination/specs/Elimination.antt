@@ -1,0 +1,105 @@
+-- Elimination on a copy of G over the known positions in order, as lists, and the answer that it gives for one lane.
+use mathlib.Core.Bool.{Bool, true, false, cond, not, _&&_}
+use mathlib.Core.List.{List, [], _∷_}
+use Prim.Native.Nat.{ℕ, zero, suc}
+use lib.Dec.{eqb, ltb}
+use lib.ListN.{getD, set, replicate}
+use Rattle.galois.specs.Bounded.{any}
+use Rattle.galois.specs.Byte.{_⊕_, _⊗_, quotient}
+use Rattle.galois.specs.Sum.{sum}
+use Rattle.code.specs.declared.settings.Settings.{Settings}
+use Rattle.code.specs.Matrix.{generatorOf}
+use Rattle.code.specs.Settings.{accepted, kOf, nOf}
+use Rattle.code.specs.Table.{table}
+use Rattle.elimination.specs.declared.lane.Symbol.{Symbol}
+use Rattle.elimination.specs.declared.lane.Symbol.the-variants.{Clash, Lost, Whole}
+
+-- the entry at row r and position p
+unfoldable pub cell : List (List ℕ) → ℕ → ℕ → ℕ
+cell m r p = getD (getD m r []) p 0
+
+-- a row that is no pivot has the role 16; a pivot has its position
+unfoldable pub free : List ℕ → ℕ → Bool
+free roles r = eqb (getD roles r 16) 16
+
+-- a matrix, and the role of each of its rows
+pub record Reduced : Type 0 where
+  pub rows : List (List ℕ)
+  pub roles : List ℕ
+
+-- the first of the m rows from r on that is free and not 0 at position p, or 16
+unfoldable pub pivotFrom : Reduced → ℕ → ℕ → ℕ → ℕ
+pivotFrom x p r zero = 16
+pivotFrom x p r (suc m) =
+    elim (free (x .roles) r && not (eqb (cell (x .rows) r p) 0)) [ true ↦ r | false ↦ pivotFrom x p (suc r) m ]
+
+-- row r scaled to 1 at position p, at position j
+unfoldable pub scaledAt : List (List ℕ) → ℕ → ℕ → ℕ → ℕ
+scaledAt m r p j = quotient (cell m r j) (cell m r p)
+
+-- row r scaled to 1 at position p, and position p cleared from every other row
+unfoldable pub cleared : List (List ℕ) → ℕ → ℕ → List (List ℕ)
+cleared m r p =
+    table 16 (λ q. table 16 (λ j. cond (eqb q r) (scaledAt m r p j) (cell m q j ⊕ cell m q p ⊗ scaledAt m r p j)))
+
+-- row r becomes the pivot of position p, unless r is 16
+unfoldable pub pivoted : Reduced → ℕ → ℕ → Reduced
+pivoted x r p =
+    elim (ltb r 16) [
+      | true ↦ record { rows = cleared (x .rows) r p; roles = set (x .roles) r p }
+      | false ↦ x
+    ]
+
+-- one position: its pivot, if it is known and some row can be one
+unfoldable pub columnStep : ℕ → Bool → ℕ → Reduced → Reduced
+columnStep k known p x = elim known [ true ↦ pivoted x (pivotFrom x p 0 k) p | false ↦ x ]
+
+-- the first m positions done
+unfoldable pub columns : Settings → (ℕ → Bool) → ℕ → Reduced
+columns s known zero = record { rows = generatorOf s; roles = replicate 16 16 }
+columns s known (suc p) = columnStep (kOf s) (known p) p (columns s known p)
+
+-- all positions done
+unfoldable pub eliminated : Settings → (ℕ → Bool) → Reduced
+eliminated s known = columns s known (nOf s)
+
+-- the sum of the pivots' rows, each by the byte at its position, at position q
+unfoldable pub combined : Settings → Reduced → (ℕ → ℕ) → ℕ → ℕ
+combined s x byte q =
+    sum (kOf s) (λ r. cond (free (x .roles) r) 0 (byte (getD (x .roles) r 16) ⊗ cell (x .rows) r q))
+
+-- at some known position that sum is not the byte that arrived
+unfoldable pub clashes : Settings → Reduced → (ℕ → Bool) → (ℕ → ℕ) → Bool
+clashes s x known byte = any (nOf s) (λ q. known q && not (eqb (combined s x byte q) (byte q)))
+
+-- some row that is no pivot is not 0 at position i
+unfoldable pub differs : Settings → Reduced → ℕ → Bool
+differs s x i = any (kOf s) (λ r. free (x .roles) r && not (eqb (cell (x .rows) r i) 0))
+
+-- what elimination says of position i
+unfoldable pub symbolOf : Settings → Reduced → (ℕ → Bool) → (ℕ → ℕ) → ℕ → Symbol
+symbolOf s x known byte i =
+    elim (clashes s x known byte) [
+      | true ↦ Clash
+      | false ↦ elim (differs s x i) [ true ↦ Lost | false ↦ Whole (combined s x byte i) ]
+    ]
+
+-- the positions below n whose flag is 1 are known
+unfoldable pub knownIn : Settings → List ℕ → ℕ → Bool
+knownIn s flags p = ltb p (nOf s) && eqb (getD flags p 0) 1
+
+-- elimination over the flags; for settings that are not accepted, zeros and no pivot
+unfoldable pub reducedOf : Settings → List ℕ → Reduced
+reducedOf s flags =
+    elim (accepted s) [
+      | true ↦ eliminated s (knownIn s flags)
+      | false ↦ record { rows = table 16 (λ r. table 16 (λ p. 0)); roles = replicate 16 16 }
+    ]
+
+-- what elimination says of position i of a lane's bytes; lost for settings that are not accepted, or a position outside the word
+unfoldable pub laneSymbol : Settings → Reduced → List ℕ → List ℕ → ℕ → Symbol
+laneSymbol s x flags bytes i =
+    elim (accepted s && ltb i (nOf s)) [
+      | true ↦ symbolOf s x (knownIn s flags) (λ p. getD bytes p 0) i
+      | false ↦ Lost
+    ]

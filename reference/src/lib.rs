@@ -1,0 +1,10 @@
+//! A plain reference of document 01, the tote broadcast: one module a section.
+//! It is written for reading beside the document, not for speed.
+
+#![forbid(unsafe_code)]
+
+pub mod field;
+pub mod linear;
+pub mod matrix;
+pub mod patterns;
+pub mod settings;
