@@ -1,0 +1,27 @@
+-- The laws that the crates above cite.
+pub mod Rings
+pub mod VerdictMeaning
+pub mod ReportRows
+pub mod Refusals
+pub mod TrueWords
+pub mod CauseTables
+pub mod Sending
+pub mod Histories
+pub mod Slots
+pub mod SentLengths
+pub mod SenderRows
+pub mod SentFrames
+pub mod SenderList
+pub mod HeaderBytes
+pub mod ReportCauses
+pub mod ReportSteps
+pub mod ReportChain
+pub mod Receipts
+pub mod SlotReports
+pub mod Received
+pub mod ReceivedRows
+pub mod SlotRows
+pub mod Arrivals
+pub mod Recovery
+pub mod Demand
+pub mod FigureTen

@@ -1,0 +1,120 @@
+-- A list of reports as a chain: each one finds the slot due and the rows that the one before it left.
+use mathlib.Core.Path.{_≡_, refl, subst⁻¹}
+use mathlib.Core.List.{List, [], _∷_}
+use mathlib.Core.Logic.{⊎-elim}
+use Prim.Native.Nat.{ℕ, _+_, _%_, _<_}
+use native.Mathlib.Nat.{mod-lt}
+use native.Mathlib.Omega.{arith}
+use lib.Dec.{T}
+use lib.ListN.{length, length-replicate}
+use borrow.Author.Tests.{eq-eqb}
+use Rattle.code.specs.declared.settings.Settings.{Settings}
+use Rattle.code.specs.Settings.{accepted}
+use Rattle.code.proofs.Shape.{Shape, shape}
+use Rattle.protocol.specs.declared.Receiver.{Receiver}
+use Rattle.protocol.specs.declared.Answer.the-variants as answer
+use Rattle.protocol.specs.Lengths.{bodyLen, rowLen, rowCount, receiverLen}
+use Rattle.protocol.specs.Rows.{putRow, joined}
+use Rattle.protocol.specs.Causes.{nothing, openCause}
+use Rattle.protocol.specs.Calls.{Reported, movedOn, receivedZeros, openReceiverOf}
+use Rattle.protocol.specs.TwoLists.{Report, reportOf, ReportMade, reports}
+use Rattle.protocol.proofs.Rings.{length-putRow, length-joined}
+use Rattle.protocol.proofs.CauseTables.{open-nothing}
+use Rattle.protocol.proofs.ReportRows.{rowOf, length-rowOf}
+use Rattle.protocol.proofs.ReportSteps.{made, Taken, Stayed, step}
+
+-- the receiver with slot d due
+abbrev pub waiting : Settings → ℕ → Receiver
+waiting s d = record { settings = s; due = d }
+
+-- the rows once the report of slot d is accepted
+unfoldable pub written : Settings → ℕ → Report → List ℕ → List ℕ
+written s d call rows = putRow (rowLen s) (d % rowCount s) (rowOf s call) rows
+
+-- a report that found slot d due, and these rows
+pub record Finds (s : Settings) (d : ℕ) (rows : List ℕ) (m : ReportMade) : Type 0 where
+  pub settings : m .before .settings ≡ s
+  pub slot : m .before .due ≡ d
+  pub got : m .rows ≡ rows
+  pub exact : length rows ≡ receiverLen s
+
+-- from slot d and these rows on: an accepted report is followed by those of slot d + 1, a refused one by those of slot d
+pub data Chain (s : Settings) : ℕ → List ℕ → List ReportMade → Type 0 where
+  done : {d : ℕ} {rows : List ℕ} → Chain s d rows []
+  onward : {d : ℕ} {rows : List ℕ} {m : ReportMade} {rest : List ReportMade} → Finds s d rows m → Taken m
+      → Chain s (d + 1) (written s d (m .call) rows) rest → Chain s d rows (m ∷ rest)
+  again : {d : ℕ} {rows : List ℕ} {m : ReportMade} {rest : List ReportMade} → Finds s d rows m → Stayed m
+      → Chain s d rows rest → Chain s d rows (m ∷ rest)
+
+-- there is at least one row
+pub some-rows : (s : Settings) → Shape s → 0 < rowCount s
+unfolding rowCount
+some-rows s h = omega arith
+
+-- the exact length stays
+pub length-written : (s : Settings) (d : ℕ) (call : Report) (rows : List ℕ) → Shape s → length rows ≡ receiverLen s
+    → length (rowOf s call) ≡ rowLen s → length (written s d call rows) ≡ receiverLen s
+unfolding written receiverLen
+length-written s d call rows h full fits =
+    length-putRow (rowCount s) (rowLen s) rows (rowOf s call) full fits (d % rowCount s) (mod-lt d (some-rows s h))
+
+-- a row of received zeros has the rows' length
+pub length-receivedZeros : (s : Settings) → length (receivedZeros s) ≡ rowLen s
+unfolding receivedZeros rowLen
+length-receivedZeros s = omega (arith, length-replicate {A = ℕ} (bodyLen s) 0)
+
+module _ (s : Settings) (ok : T (accepted s)) where
+  chain-taken : (d : ℕ) (rows : List ℕ) (c : Report) (cs : List Report) → length rows ≡ receiverLen s → Taken (made (waiting s d) rows c)
+      → Chain s (d + 1) (written s d c rows) (reports (waiting s (d + 1)) (written s d c rows) cs)
+      → Chain s d rows (reports (waiting s d) rows (c ∷ cs))
+  unfolding reports movedOn written
+  chain-taken d rows c cs exact t next =
+      onward (record { settings = refl; slot = refl; got = refl; exact = exact }) t
+      (subst⁻¹ (λ (r : Reported). Chain s (d + 1) (written s d c rows) (reports (r .receiver) (r .rows) cs)) (t .moved) next)
+
+  chain-stayed : (d : ℕ) (rows : List ℕ) (c : Report) (cs : List Report) → length rows ≡ receiverLen s → Stayed (made (waiting s d) rows c)
+      → Chain s d rows (reports (waiting s d) rows cs) → Chain s d rows (reports (waiting s d) rows (c ∷ cs))
+  unfolding reports
+  chain-stayed d rows c cs exact t next =
+      let r : Reported = reportOf (waiting s d) rows c in
+      let rest : Chain s d rows (reports (r .receiver) (r .rows) cs) = rw (t .same-receiver, t .same-rows) next in
+      again (record { settings = refl; slot = refl; got = refl; exact = exact }) t rest
+
+  -- the reports of any calls are a chain, from any slot and any rows of the exact length
+  pub chain : (d : ℕ) (rows : List ℕ) (calls : List Report) → length rows ≡ receiverLen s
+      → Chain s d rows (reports (waiting s d) rows calls)
+  unfolding reports
+  chain d rows [] exact = done
+  chain d rows (c ∷ cs) exact =
+      ⊎-elim
+      (λ t.
+      chain-taken d rows c cs exact t
+      (chain (d + 1) (written s d c rows) cs
+      (length-written s d c rows (shape s ok) exact (length-rowOf s d c (t .uncaused)))))
+      (λ t. chain-stayed d rows c cs exact t (chain d rows cs exact)) (step (waiting s d) rows ok exact c)
+
+  -- the same of any receiver with these settings
+  pub chain-of : (x : Receiver) (rows : List ℕ) (calls : List Report) → x .settings ≡ s → length rows ≡ receiverLen s
+      → Chain s (x .due) rows (reports x rows calls)
+  chain-of x rows calls e exact =
+      let same : x ≡ waiting s (x .due) = λ i. record { settings = e i; due = x .due } in
+      subst⁻¹ (λ (y : Receiver). Chain s (x .due) rows (reports y rows calls)) same (chain (x .due) rows calls exact)
+
+  -- ---- from the opening on
+
+  -- opening makes slot 0 due, and the rows received zeros
+  pub opened-receiver : (rows : List ℕ) → length rows ≡ receiverLen s
+      → openReceiverOf s rows
+      ≡ record { answer = answer.Accepted; receiver = waiting s 0; rows = joined (rowCount s) (λ r. receivedZeros s) }
+  unfolding openReceiverOf
+  opened-receiver rows exact = rw (open-nothing s (receiverLen s) rows ok exact, openReceiverOf)
+
+  -- the reports after an accepted opening are a chain from slot 0 and received zeros on
+  pub opened-chain : (rows : List ℕ) → length rows ≡ receiverLen s → (calls : List Report)
+      → Chain s 0 (joined (rowCount s) (λ r. receivedZeros s))
+      (reports (openReceiverOf s rows .receiver) (openReceiverOf s rows .rows) calls)
+  unfolding receiverLen
+  opened-chain rows exact calls =
+      rw (opened-receiver rows exact)
+      (chain 0 (joined (rowCount s) (λ r. receivedZeros s)) calls
+      (length-joined (rowLen s) (rowCount s) (λ r. receivedZeros s) (λ r. length-receivedZeros s)))

@@ -1,0 +1,120 @@
+-- Document 01, "What is remembered" and "Why a call says no": each call as a function of the state and every lent list.
+use mathlib.Core.Bool.{Bool, cond}
+use mathlib.Core.List.{List, [], _∷_}
+use Prim.Native.Nat.{ℕ, _+_, _-_, _%_}
+use lib.Dec.{ltb}
+use lib.ListN.{drop, replicate}
+use Rattle.code.specs.declared.settings.Settings.{Settings}
+use Rattle.code.specs.Settings.{delayOf, nOf}
+use Rattle.protocol.specs.declared.Sender.{Sender}
+use Rattle.protocol.specs.declared.Receiver.{Receiver}
+use Rattle.protocol.specs.declared.Answer.{Answer}
+use Rattle.protocol.specs.declared.Answer.the-variants as answer
+use Rattle.protocol.specs.declared.Reply.{Reply}
+use Rattle.protocol.specs.declared.Reply.the-variants as reply
+use Rattle.protocol.specs.Lengths.{messageLen, bodyLen, senderLen, rowLen, rowCount, receiverLen}
+use Rattle.protocol.specs.Rows.{putRow, joined}
+use Rattle.protocol.specs.Frame.{frameOf}
+use Rattle.protocol.specs.Verdict.{verdict, bufferOf}
+use Rattle.protocol.specs.Causes.{Found, nothing, cause, openCause, sendCause, lossCause, frameCause}
+
+-- the settings of a refused opening's state
+unfoldable pub noSettings : Settings
+noSettings = record { window = 0; delay = 0; burst = 0; scattered = 0; lanes = 0 }
+
+-- ---- the sender
+
+pub record OpenedSender : Type 0 where
+  pub answer : Answer
+  pub sender : Sender
+  pub rows : List ℕ
+
+-- opening zeroes the sender's rows
+unfoldable pub openSenderOf : Settings → List ℕ → OpenedSender
+openSenderOf s rows =
+    elim (openCause s (senderLen s) rows) [
+      | nothing ↦ record { answer = answer.Accepted; sender = record { settings = s; due = 0 }; rows = replicate (senderLen s) 0 }
+      | cause c ↦ record { answer = answer.Refused c; sender = record { settings = noSettings; due = 0 }; rows = rows }
+    ]
+
+pub record Sent : Type 0 where
+  pub answer : Answer
+  pub sender : Sender
+  pub rows : List ℕ
+  pub frame : List ℕ
+
+-- the frame is worked out from the rows as they are; then message t is written over its row, t mod (n - 1)
+unfoldable pub sendOf : Sender → List ℕ → List ℕ → List ℕ → Sent
+sendOf x rows message frame =
+    elim (sendCause x rows message frame) [
+      | nothing ↦ record {
+        answer = answer.Accepted;
+        sender = record { settings = x .settings; due = x .due + 1 };
+        rows = putRow (messageLen (x .settings)) (x .due % (nOf (x .settings) - 1)) message rows;
+        frame = frameOf 1 (x .settings) rows message (x .due);
+      }
+      | cause c ↦ record { answer = answer.Refused c; sender = x; rows = rows; frame = frame }
+    ]
+
+-- ---- the receiver
+
+-- a row that was received, all zeros
+unfoldable pub receivedZeros : Settings → List ℕ
+receivedZeros s = 1 ∷ replicate (bodyLen s) 0
+
+pub record OpenedReceiver : Type 0 where
+  pub answer : Answer
+  pub receiver : Receiver
+  pub rows : List ℕ
+
+-- opening makes the receiver's rows received zeros
+unfoldable pub openReceiverOf : Settings → List ℕ → OpenedReceiver
+openReceiverOf s rows =
+    elim (openCause s (receiverLen s) rows) [
+      | nothing ↦ record {
+        answer = answer.Accepted;
+        receiver = record { settings = s; due = 0 };
+        rows = joined (rowCount s) (λ r. receivedZeros s);
+      }
+      | cause c ↦ record { answer = answer.Refused c; receiver = record { settings = noSettings; due = 0 }; rows = rows }
+    ]
+
+pub record Reported : Type 0 where
+  pub reply : Reply
+  pub receiver : Receiver
+  pub rows : List ℕ
+  pub message : List ℕ
+
+-- the message that the report of this slot tells of, if there is one
+unfoldable pub messageDue : Settings → ℕ → ℕ
+messageDue s due = due - delayOf s
+
+-- an accepted report: its row is written at slot due, t mod (k + T), the slot due moves on, and message due - T is told, if there is one
+unfoldable pub movedOn : Receiver → List ℕ → List ℕ → Reported
+movedOn x row rows =
+    let s = x .settings in
+    let now : List ℕ = putRow (rowLen s) (x .due % rowCount s) row rows in
+    let t : ℕ = messageDue s (x .due) in
+    let told : Reply = cond (ltb (x .due) (delayOf s)) reply.NoneYet (verdict s now (x .due + 1) t) in
+    record {
+      reply = told;
+      receiver = record { settings = s; due = x .due + 1 };
+      rows = now;
+      message = bufferOf s now (x .due + 1) t told;
+    }
+
+-- a reported loss writes zeros over the whole row
+unfoldable pub lossOf : Receiver → List ℕ → List ℕ → Reported
+lossOf x rows message =
+    elim (lossCause x rows message) [
+      | nothing ↦ movedOn x (replicate (rowLen (x .settings)) 0) rows
+      | cause c ↦ record { reply = reply.Refused c; receiver = x; rows = rows; message = message }
+    ]
+
+-- an accepted frame writes 1 and then its body
+unfoldable pub heardOf : Receiver → List ℕ → List ℕ → List ℕ → Reported
+heardOf x rows frame message =
+    elim (frameCause x rows frame message) [
+      | nothing ↦ movedOn x (1 ∷ drop 14 frame) rows
+      | cause c ↦ record { reply = reply.Refused c; receiver = x; rows = rows; message = message }
+    ]
