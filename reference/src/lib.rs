@@ -4,7 +4,13 @@
 #![forbid(unsafe_code)]
 
 pub mod field;
+pub mod frame;
 pub mod linear;
 pub mod matrix;
 pub mod patterns;
+pub mod play;
+pub mod receiver;
+pub mod scenarios;
+pub mod sender;
 pub mod settings;
+pub mod state;

@@ -12,7 +12,12 @@ pub struct Draws {
 
 impl Draws {
     pub fn start() -> Draws {
-        Draws { x: 20261115 }
+        Draws::from(20261115)
+    }
+
+    /// The same generator with another start of x.
+    pub fn from(x: u64) -> Draws {
+        Draws { x }
     }
 
     /// `next() mod bound`.

@@ -11,7 +11,7 @@ fn next(x: &mut u64) -> u64
 }
 
 // The next number modulo m.
-pub fn below(x: &mut u64, m: usize) -> usize
+pub(crate) fn below(x: &mut u64, m: usize) -> usize
     requires { ⌜ 0 < m ⌝ }
     ensures { λ r. ⌜ r < m ⌝ }
 {
@@ -30,7 +30,7 @@ fn flag(x: &mut u64) -> u8 {
     }
 }
 
-pub fn flags(x: &mut u64) -> [u8; 16] {
+pub(crate) fn flags(x: &mut u64) -> [u8; 16] {
     let mut out = [0u8; 16];
     let mut p: usize = 0;
     while p < 16 {
@@ -41,7 +41,7 @@ pub fn flags(x: &mut u64) -> [u8; 16] {
 }
 
 // As many bytes as are asked for, and then zeros.
-pub fn bytes(x: &mut u64, count: usize) -> [u8; 16]
+pub(crate) fn bytes(x: &mut u64, count: usize) -> [u8; 16]
     requires { ⌜ count ≤ 16 ⌝ }
 {
     let mut out = [0u8; 16];

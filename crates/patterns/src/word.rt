@@ -40,7 +40,7 @@ fn changed(word: [u8; 16], x: &mut u64, n: usize) -> [u8; 16]
     out
 }
 
-pub fn arrived(s: Settings, j: u8, x: &mut u64) -> [u8; 16]
+pub(crate) fn arrived(s: Settings, j: u8, x: &mut u64) -> [u8; 16]
     requires { ⌜ nOf s ≤ 16 ⌝ }
 {
     if j % 3 == 2 {

@@ -25,3 +25,4 @@ pub mod Arrivals
 pub mod Recovery
 pub mod Demand
 pub mod FigureTen
+pub mod QuickVerdict

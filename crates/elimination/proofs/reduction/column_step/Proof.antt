@@ -12,9 +12,7 @@ use Rattle.elimination.specs.Elimination.{Reduced, pivotFrom, cleared}
 use Rattle.elimination.proofs.Rewritten.{unknown-step, no-pivot-step, pivot-step}
 use Rattle.elimination.proofs.reduction.column_step.Statement.{statement}
 use Rattle.elimination.proofs.reduction.column_step.Tie as tie
-
-abbrev both : List (List ℕ) → List ℕ → Reduced
-both rows roles = record { rows = rows; roles = roles }
+use Rattle.elimination.proofs.Terms.{both}
 
 returns : tie.Need-returns
 returns c =

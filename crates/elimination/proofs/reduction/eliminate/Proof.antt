@@ -15,9 +15,7 @@ use Rattle.elimination.proofs.Invariant.{invariant}
 use Rattle.elimination.proofs.Reductions.{reduced-accepted, reduced-refused, columns-more, rows-sixteen}
 use Rattle.elimination.proofs.reduction.eliminate.Statement.{statement}
 use Rattle.elimination.proofs.reduction.eliminate.Tie as tie
-
-abbrev both : List (List ℕ) → List ℕ → Reduced
-both rows roles = record { rows = rows; roles = roles }
+use Rattle.elimination.proofs.Terms.{both}
 
 abbrev Inv-loop : tie.InvT-loop
 Inv-loop s roles₀ flags rows₀ p₀ roles rows p =

@@ -11,9 +11,7 @@ use Rattle.elimination.specs.Elimination.{Reduced, cell, pivotFrom}
 use Rattle.elimination.proofs.PivotSearch.{pivot-here, pivot-taken, pivot-zero}
 use Rattle.elimination.proofs.reduction.pivot_row.Statement.{statement}
 use Rattle.elimination.proofs.reduction.pivot_row.Tie as tie
-
-abbrev both : List (List ℕ) → List ℕ → Reduced
-both rows roles = record { rows = rows; roles = roles }
+use Rattle.elimination.proofs.Terms.{both}
 
 abbrev Inv-loop : tie.InvT-loop
 Inv-loop rows roles p k r₀ r = (r ≤ k) × (pivotFrom (both rows roles) p 0 k ≡ pivotFrom (both rows roles) p r (k - r))

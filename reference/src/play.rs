@@ -1,0 +1,107 @@
+//! "Playing a recording": frames of one length back to back, and the text printed for them.
+
+use crate::frame;
+use crate::receiver::{self, Reply};
+use crate::settings::Settings;
+use crate::state::{check_settings, refuse_if, Refusal, State};
+
+/// A recording is at most 64 KiB.
+pub const LONGEST: usize = 64 * 1024;
+/// A frame's slot is at most this far above the slot due.
+pub const FURTHEST: u32 = 4095;
+
+/// What the program prints for a recording.
+pub fn play(recording: &[u8]) -> String {
+    let mut text = String::new();
+    if let Err(refusal) = play_into(recording, &mut text) {
+        text += &format!("stop {}\n", refusal.number());
+    }
+    text
+}
+
+fn play_into(recording: &[u8], text: &mut String) -> Result<(), Refusal> {
+    if recording.is_empty() {
+        return Ok(());
+    }
+    let settings = check_recording(recording)?;
+    let mut player = Player::start(settings);
+    for frame in recording.chunks_exact(frame::length(&settings)) {
+        player.check(frame)?;
+        player.play_frame(frame, text)?;
+    }
+    Ok(())
+}
+
+/// The checks before any message line is printed. The first frame gives the settings.
+fn check_recording(recording: &[u8]) -> Result<Settings, Refusal> {
+    let outside = recording.len() < frame::HEADER || recording.len() > LONGEST;
+    refuse_if(outside, Refusal::WrongLength)?;
+    let settings = frame::settings(recording);
+    check_settings(&settings)?;
+    let part_left = !recording.len().is_multiple_of(frame::length(&settings));
+    refuse_if(part_left, Refusal::WrongLength)?;
+    Ok(settings)
+}
+
+/// A receiver with its rows and its message buffer.
+struct Player {
+    state: State,
+    rows: Vec<u8>,
+    message: Vec<u8>,
+}
+
+impl Player {
+    /// A receiver opened with accepted settings.
+    fn start(settings: Settings) -> Player {
+        let mut rows = vec![0; receiver::rows_length(&settings)];
+        let (state, opened) = receiver::open(settings, &mut rows);
+        assert_eq!(opened, Ok(()));
+        Player { state, rows, message: vec![0; frame::message_length(&settings)] }
+    }
+
+    /// 4 and 5 in the table's order; then 6 if the slot is below the slot due or more than
+    /// 4,095 above it.
+    fn check(&self, frame: &[u8]) -> Result<(), Refusal> {
+        frame::check_kind(frame, &self.state.settings)?;
+        let above = frame::slot(frame).checked_sub(self.state.due);
+        refuse_if(above.is_none_or(|slots| slots > FURTHEST), Refusal::NotTheSlotDue)
+    }
+
+    /// The skipped slots are reported as losses, and then the frame itself.
+    fn play_frame(&mut self, frame: &[u8], text: &mut String) -> Result<(), Refusal> {
+        while self.state.due < frame::slot(frame) {
+            let report = receiver::report_loss(self.state, &mut self.rows, &mut self.message);
+            self.took(report, text)?;
+        }
+        let report = receiver::report_frame(self.state, &mut self.rows, frame, &mut self.message);
+        self.took(report, text)
+    }
+
+    fn took(
+        &mut self,
+        (state, reply): (State, Result<Reply, Refusal>),
+        text: &mut String,
+    ) -> Result<(), Refusal> {
+        let reported = self.state.due;
+        self.state = state;
+        *text += &self.line(reported, reply?);
+        Ok(())
+    }
+
+    /// The line of the message due when this slot was reported; "none yet" has none.
+    fn line(&self, reported: u32, reply: Reply) -> String {
+        let says = match reply {
+            Reply::NoneYet => return String::new(),
+            Reply::Lost => "lost".to_string(),
+            Reply::Clash => "clash".to_string(),
+            Reply::Whole => format!("whole {}", hex(&self.message)),
+        };
+        let message = reported - u32::from(self.state.settings.delay);
+        format!("{message} {says}\n")
+    }
+}
+
+/// Lower-case hex.
+fn hex(bytes: &[u8]) -> String {
+    bytes.iter().map(|byte| format!("{byte:02x}")).collect()
+}

@@ -1,0 +1,162 @@
+//! The receiver: opening, the frame report, the loss report, and the verdict on the
+//! message that is then due (demand 2).
+
+use crate::field::Byte;
+use crate::frame::{self, body_length, message_length, place};
+use crate::linear::{answer, Answer};
+use crate::matrix::Matrix;
+use crate::settings::Settings;
+use crate::state::{
+    check_length, check_settings, check_slot_due, refuse_if, row, Refusal, State,
+};
+
+/// A row's first byte for received; any other value means lost.
+pub const RECEIVED: u8 = 1;
+
+/// What an accepted report says of message t, when slot t + T is reported.
+#[derive(Clone, Copy, Debug, PartialEq, Eq)]
+pub enum Reply {
+    NoneYet,
+    Lost,
+    Clash,
+    Whole,
+}
+
+/// The length of a row, 1 + n × L.
+pub fn row_length(settings: &Settings) -> usize {
+    1 + body_length(settings)
+}
+
+/// How many rows there are, k + T.
+pub fn row_count(settings: &Settings) -> usize {
+    settings.k() + settings.t()
+}
+
+pub fn rows_length(settings: &Settings) -> usize {
+    row_count(settings) * row_length(settings)
+}
+
+/// Slot t sits in row t mod (k + T).
+fn row_of(settings: &Settings, slot: i64) -> std::ops::Range<usize> {
+    row(slot, row_count(settings), row_length(settings))
+}
+
+/// Opening makes the rows received zeros. A refused opening hands back a state of zeros.
+pub fn open(settings: Settings, rows: &mut [u8]) -> (State, Result<(), Refusal>) {
+    if let Err(refusal) = check_opening(&settings, rows) {
+        return (State::ZEROS, Err(refusal));
+    }
+    for row in rows.chunks_exact_mut(row_length(&settings)) {
+        row.fill(0);
+        row[0] = RECEIVED;
+    }
+    (State::opened(settings), Ok(()))
+}
+
+fn check_opening(settings: &Settings, rows: &[u8]) -> Result<(), Refusal> {
+    check_settings(settings)?;
+    check_length(rows, rows_length(settings))
+}
+
+/// The slot due was heard; a refused call leaves everything unchanged.
+pub fn report_frame(
+    state: State,
+    rows: &mut [u8],
+    frame: &[u8],
+    message: &mut [u8],
+) -> (State, Result<Reply, Refusal>) {
+    if let Err(refusal) = check_frame(&state, rows, frame, message) {
+        return (state, Err(refusal));
+    }
+    // An accepted frame writes 1 and then its body into its slot's row.
+    let row = &mut rows[row_of(&state.settings, state.slot())];
+    row[0] = RECEIVED;
+    row[1..].copy_from_slice(frame::body(frame));
+    (state.moved_on(), Ok(reply(&state, rows, message)))
+}
+
+/// The slot due was not heard; a refused call leaves everything unchanged.
+pub fn report_loss(
+    state: State,
+    rows: &mut [u8],
+    message: &mut [u8],
+) -> (State, Result<Reply, Refusal>) {
+    if let Err(refusal) = check_loss(&state, rows, message) {
+        return (state, Err(refusal));
+    }
+    // A reported loss writes zeros over the whole row.
+    rows[row_of(&state.settings, state.slot())].fill(0);
+    (state.moved_on(), Ok(reply(&state, rows, message)))
+}
+
+fn check_frame(
+    state: &State,
+    rows: &[u8],
+    frame: &[u8],
+    message: &[u8],
+) -> Result<(), Refusal> {
+    check_settings(&state.settings)?;
+    check_length(rows, rows_length(&state.settings))?;
+    check_length(frame, frame::length(&state.settings))?;
+    check_length(message, message_length(&state.settings))?;
+    check_slot_due(state)?;
+    frame::check_kind(frame, &state.settings)?;
+    refuse_if(frame::slot(frame) != state.due, Refusal::NotTheSlotDue)
+}
+
+fn check_loss(state: &State, rows: &[u8], message: &[u8]) -> Result<(), Refusal> {
+    check_settings(&state.settings)?;
+    check_length(rows, rows_length(&state.settings))?;
+    check_length(message, message_length(&state.settings))?;
+    check_slot_due(state)
+}
+
+/// The reply to the report of the slot due, already in its row. The buffer gets
+/// message t when whole; zeros for lost, clash and "none yet" (slot below T).
+fn reply(state: &State, rows: &[u8], message: &mut [u8]) -> Reply {
+    message.fill(0);
+    if state.slot() < state.settings.t() as i64 {
+        return Reply::NoneYet;
+    }
+    let answers = answers(state, rows);
+    if answers.contains(&Answer::Clash) {
+        return Reply::Clash;
+    }
+    if answers.contains(&Answer::Lost) {
+        return Reply::Lost;
+    }
+    for (byte, answer) in message.iter_mut().zip(answers) {
+        if let Answer::Whole(Byte(shared)) = answer {
+            *byte = shared;
+        }
+    }
+    Reply::Whole
+}
+
+/// For each byte of message t, what the codeword that carries it says of it.
+fn answers(state: &State, rows: &[u8]) -> Vec<Answer> {
+    let settings = &state.settings;
+    let matrix = Matrix::of(settings);
+    let t = state.slot() - settings.t() as i64;
+    let mut answers = Vec::new();
+    for i in 0..settings.k() {
+        for lane in 0..settings.lanes as usize {
+            let arrived = arrived(state, rows, t - i as i64, lane);
+            answers.push(answer(&matrix, &arrived, i));
+        }
+    }
+    answers
+}
+
+/// The symbols of the codeword starting at a slot, as far as they arrived by the slot due:
+/// symbol p travels in slot start + p, and what arrived is what the lent rows say.
+fn arrived(state: &State, rows: &[u8], start: i64, lane: usize) -> Vec<Option<Byte>> {
+    let settings = &state.settings;
+    let symbol = |p: usize| {
+        let slot = start + p as i64;
+        let row = &rows[row_of(settings, slot)];
+        let known = slot <= state.slot() && row[0] == RECEIVED;
+        known.then(|| Byte(row[1 + place(settings, p, lane)]))
+    };
+    (0..settings.n()).map(symbol).collect()
+}

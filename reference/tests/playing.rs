@@ -1,0 +1,122 @@
+//! "Playing a recording": 01's example, and each way to stop.
+
+#![forbid(unsafe_code)]
+
+use reference::frame;
+use reference::play::play;
+use reference::settings::Settings;
+use reference::state::State;
+
+/// A frame of settings 4, 3, 2, 2, 1 for a slot of case 9.
+fn frame_of_case_9(slot: u32) -> Vec<u8> {
+    let body = match slot {
+        0 => [1, 0, 0, 0],
+        1 => [0, 1, 0, 0],
+        2 => [0, 0, 1, 0],
+        3 => [0, 0, 0, 0x18],
+        _ => [0, 0, 0, 0],
+    };
+    frame::of(&State { settings: Settings::of_code(3, 2, 2), due: slot }, &body)
+}
+
+fn recording(slots: impl IntoIterator<Item = u32>) -> Vec<u8> {
+    slots.into_iter().flat_map(frame_of_case_9).collect()
+}
+
+/// The frames of slots 2, 3, 4 with one byte of the frame of slot 4 changed.
+fn changed(place: usize, byte: u8) -> Vec<u8> {
+    let mut bytes = recording([2, 3, 4]);
+    bytes[2 * 18 + place] = byte;
+    bytes
+}
+
+#[test]
+fn the_example() {
+    assert_eq!(play(&recording([2, 3, 4])), "0 whole 0100\n1 whole 0001\n");
+}
+
+#[test]
+fn an_empty_recording_prints_nothing() {
+    assert_eq!(play(&[]), "");
+}
+
+#[test]
+fn lost_and_clash_have_their_lines() {
+    assert_eq!(play(&recording([3, 4, 5])), "0 lost\n1 lost\n2 whole 0000\n");
+    let mut bytes = recording(0..=5);
+    bytes[2 * 18 + 14 + 2] = 2;
+    assert_eq!(play(&bytes), "0 clash\n1 clash\n2 whole 0000\n");
+}
+
+#[test]
+fn short_and_long_recordings_stop_with_2() {
+    let good = recording([2, 3, 4]);
+    // Below 14 bytes the settings are not looked at; from 14 on they come first.
+    assert_eq!(play(&good[..1]), "stop 2\n");
+    assert_eq!(play(&[0; 13]), "stop 2\n");
+    assert_eq!(play(&[0; 14]), "stop 1\n");
+    assert_eq!(play(&good[..14]), "stop 2\n");
+    assert_eq!(play(&good[..53]), "stop 2\n");
+    assert_eq!(play(&[&good[..], &[0]].concat()), "stop 2\n");
+    assert_eq!(play(&[0; 65536]), "stop 1\n");
+    assert_eq!(play(&[0; 65537]), "stop 2\n");
+}
+
+#[test]
+fn a_recording_of_64_kib_is_played() {
+    // (1,1,1) with L = 1: frames of 16 bytes.
+    let settings = Settings::of_code(1, 1, 1);
+    let frames = (0..4096).flat_map(|due| frame::of(&State { settings, due }, &[0, 0]));
+    let bytes: Vec<u8> = frames.collect();
+    assert_eq!(bytes.len(), 65536);
+    let expected: String = (0..4095).map(|message| format!("{message} whole 00\n")).collect();
+    assert_eq!(play(&bytes), expected);
+}
+
+#[test]
+fn settings_of_the_first_frame_that_are_not_accepted_stop_with_1() {
+    let mut bytes = recording([2, 3, 4]);
+    bytes[8] = 0;
+    assert_eq!(play(&bytes), "stop 1\n");
+    // Before the mark is looked at, and before the number of frames is.
+    bytes[0] = 0;
+    assert_eq!(play(&bytes[..53]), "stop 1\n");
+}
+
+#[test]
+fn another_mark_or_version_stops_with_4() {
+    assert_eq!(play(&changed(0, 0x55)), "0 whole 0100\nstop 4\n");
+    assert_eq!(play(&changed(4, 2)), "0 whole 0100\nstop 4\n");
+    let mut first = recording([2]);
+    first[1] = 0;
+    assert_eq!(play(&first), "stop 4\n");
+    // The length comes before the mark.
+    assert_eq!(play(&first[..17]), "stop 2\n");
+}
+
+#[test]
+fn other_settings_stop_with_5() {
+    for place in 5..10 {
+        assert_eq!(play(&changed(place, 9)), "0 whole 0100\nstop 5\n");
+    }
+}
+
+#[test]
+fn a_slot_below_or_too_far_above_stops_with_6() {
+    assert_eq!(play(&recording([2, 3, 3])), "0 whole 0100\nstop 6\n");
+    assert_eq!(play(&recording([2, 3, 0])), "0 whole 0100\nstop 6\n");
+    assert_eq!(play(&recording([4096])), "stop 6\n");
+    assert_eq!(play(&recording([2, 3, 4 + 4096])), "0 whole 0100\nstop 6\n");
+    assert_eq!(play(&recording([u32::MAX])), "stop 6\n");
+}
+
+#[test]
+fn a_slot_4095_above_is_reached_through_losses() {
+    let text = play(&recording([4095]));
+    let lines: Vec<&str> = text.lines().collect();
+    assert_eq!((lines.len(), lines[0], lines[4092]), (4093, "0 lost", "4092 lost"));
+    let text = play(&recording([0, 1, 2, 3, 4 + 4095]));
+    // Messages 0 to 3 were heard in their own slots.
+    assert!(text.starts_with("0 whole 0100\n1 whole 0001\n2 whole 0000\n3 whole 0000\n4 lost\n"));
+    assert_eq!(text.lines().last(), Some("4096 lost"));
+}
