@@ -1,5 +1,6 @@
 -- The laws that the crates above cite.
 pub mod Rings
+pub mod LengthBounds
 pub mod VerdictMeaning
 pub mod ReportRows
 pub mod Refusals

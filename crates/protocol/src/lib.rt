@@ -1,6 +1,20 @@
 // The states of both ends, and what a call answers. Each call is a definition in specs/, and proofs/ has the theorem about any two
 // lists of calls.
+mod header;
+mod lengths;
+mod slices;
+
 use code::Settings;
+pub use header::header_bytes;
+pub use lengths::body_len;
+pub use lengths::frame_len;
+pub use lengths::message_len;
+pub use lengths::receiver_len;
+pub use lengths::row_count;
+pub use lengths::row_len;
+pub use lengths::sender_len;
+pub use slices::clear;
+pub use slices::write_at;
 
 // A slot's number.
 pub struct Slot(pub u32);

@@ -1,0 +1,9 @@
+-- The laws that the functions' proofs cite.
+pub mod Places
+pub mod SameValues
+pub mod Marks
+pub mod LaneSaid
+pub mod HeaderTests
+pub mod Outcomes
+pub mod OpenedRows
+pub mod RowEnds

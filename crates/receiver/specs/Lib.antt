@@ -1,0 +1,2 @@
+-- What the receiver's functions say.
+pub mod Decision

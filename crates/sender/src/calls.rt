@@ -1,0 +1,100 @@
+// The sender's two calls. Each takes any input at all, and a refused call changes nothing.
+use crate::frame::write_frame;
+use crate::lengths::exact;
+use crate::rows::remember;
+use code::Settings;
+use protocol::Answer;
+use protocol::Cause;
+use protocol::Sender;
+use protocol::Slot;
+use protocol::clear;
+use protocol::sender_len;
+ghost use mathlib.Core.Path.{_≡_};
+ghost use Rattle.protocol.specs.Calls.{openSenderOf, sendOf};
+ghost use Rattle.protocol.specs.declared.Answer.the-variants.{Refused};
+
+// What an opening gives back.
+pub struct Opened {
+    pub answer: Answer,
+    pub sender: Sender,
+}
+
+// What a send gives back.
+pub struct Sent {
+    pub answer: Answer,
+    pub sender: Sender,
+}
+
+// The state of a refused opening: zeros.
+const CLOSED: Sender = Sender {
+    settings: Settings {
+        window: 0,
+        delay: 0,
+        burst: 0,
+        scattered: 0,
+        lanes: 0,
+    },
+    due: 0,
+};
+
+// Opens a sender at slot 0, and zeroes its rows.
+pub fn open(s: Settings, rows: &mut [u8]) -> Opened
+    ensures { λ r. ⌜ record { answer = r .answer; sender = r .sender; rows = now (rows .exit) } ≡ openSenderOf s (now (rows .entry)) ⌝ }
+{
+    let none = CLOSED;
+    if !s.accepted() {
+        return Opened {
+            answer: Answer::Refused(Cause::BadSettings),
+            sender: none,
+        };
+    }
+    if rows.len() != sender_len(s) {
+        return Opened {
+            answer: Answer::Refused(Cause::BadLength),
+            sender: none,
+        };
+    }
+    clear(rows);
+    Opened {
+        answer: Answer::Accepted,
+        sender: Sender {
+            settings: s,
+            due: 0,
+        },
+    }
+}
+
+// A refused send leaves the state as it was.
+fn refused(c: Cause, x: Sender) -> Sent
+    ensures { λ r. ⌜ (r .answer ≡ Refused c) × (r .sender ≡ x) ⌝ }
+{
+    Sent {
+        answer: Answer::Refused(c),
+        sender: x,
+    }
+}
+
+// Hands out the frame of the slot due, and remembers the message.
+pub fn send(x: Sender, rows: &mut [u8], message: &[u8], frame: &mut [u8]) -> Sent
+    ensures { λ r. ⌜ record { answer = r .answer; sender = r .sender; rows = now (rows .exit); frame = now (frame .exit) } ≡ sendOf x (now (rows .entry)) (now (message .entry)) (now (frame .entry)) ⌝ }
+{
+    let s = x.settings;
+    if !s.accepted() {
+        return refused(Cause::BadSettings, x);
+    }
+    if !exact(s, rows.len(), message.len(), frame.len()) {
+        return refused(Cause::BadLength, x);
+    }
+    if Slot::LAST.0 < x.due {
+        return refused(Cause::PastLastSlot, x);
+    }
+    write_frame(frame, rows, message, s, x.due);
+    remember(rows, message, s, x.due);
+    Sent {
+        answer: Answer::Accepted,
+        sender: Sender {
+            settings: s,
+            due: x.due + 1,
+        },
+    }
+}
