@@ -1,0 +1,29 @@
+-- The loop counts to six.
+use borrow.Author.Needs.{needs}
+use mathlib.Core.Path.{_≡_, refl}
+use native.Mathlib.Omega.{arith}
+use Prim.Native.Nat.{_-_, _≤_, zero-le}
+use lib.ListN.{length}
+use Rattle.scenarios.proofs.broken_sender.Statement.{statement}
+use Rattle.scenarios.proofs.broken_sender.Tie as tie
+
+abbrev Inv-loop : tie.InvT-loop
+Inv-loop s rows₀ r₀ rows r = (r ≤ 6) × (length rows ≡ length rows₀)
+
+abbrev μ-loop : tie.MeasureT-loop
+μ-loop s rows₀ r₀ rows r = 6 - r
+
+pub broken-sender-spec : {M : Type 1} → statement M
+broken-sender-spec =
+    tie.close
+    (tie.spec
+    Inv-loop
+    μ-loop
+    (λ c. (zero-le, refl))
+    (λ c κs. search needs)
+    (λ c κs. search needs)
+    (λ c. omega arith)
+    (λ c. omega arith)
+    (λ c. (omega arith, omega arith))
+    (λ c. c .before .loop .inv .1)
+    (λ c. search needs))

@@ -1,0 +1,26 @@
+-- There is a row.
+use borrow.Author.Needs.{needs}
+use native.Mathlib.Omega.{arith}
+use Rattle.code.specs.Settings.{kOf}
+use Rattle.protocol.specs.Lengths.{rowCount}
+use Rattle.scenarios.proofs.rows.touch.Statement.{statement}
+use Rattle.scenarios.proofs.rows.touch.Tie as tie
+
+below-requires-2 : tie.Need-below-requires-2
+unfolding rowCount kOf
+below-requires-2 c κs = omega arith
+
+pub touch-spec : {M : Type 1} → statement M
+touch-spec =
+    tie.close
+    (tie.spec
+    (λ c. search needs)
+    (λ c κs. search needs)
+    (λ c. search needs)
+    (λ c κs. search needs)
+    below-requires-2
+    (λ c κs. search needs)
+    (λ c κs. search needs)
+    (λ c κs. search needs)
+    (λ c. search needs)
+    (λ c. search needs))
