@@ -1,11 +1,14 @@
 // The receiver: its opening, and the reports of losses and of frames. Each call takes any input at all, and a refused call changes
 // nothing.
-mod calls;
 mod decision;
+mod frame_report;
+mod loss_report;
+mod opening;
+mod report;
 mod rows;
 
-pub use calls::Opened;
-pub use calls::Reported;
-pub use calls::heard;
-pub use calls::loss;
-pub use calls::open;
+pub use frame_report::heard;
+pub use loss_report::loss;
+pub use opening::Opened;
+pub use opening::open;
+pub use report::Reported;

@@ -5,8 +5,8 @@ use mathlib.Core.Path.{_≡_, sym, ap, _∙_}
 use Prim.Native.Nat.{ℕ}
 use lib.Dec.{eqb}
 use Rattle.protocol.specs.Lengths.{messageLen, receiverLen}
-use Rattle.receiver.proofs.calls.exact.Statement.{statement}
-use Rattle.receiver.proofs.calls.exact.Tie as tie
+use Rattle.receiver.proofs.loss_report.exact.Statement.{statement}
+use Rattle.receiver.proofs.loss_report.exact.Tie as tie
 
 returns : tie.Need-returns
 returns c =

@@ -5,8 +5,8 @@ use mathlib.Core.Path.{_≡_, sym, ap, _∙_}
 use Prim.Native.Nat.{ℕ}
 use lib.Dec.{eqb}
 use Rattle.protocol.specs.Lengths.{messageLen, frameLen, receiverLen}
-use Rattle.receiver.proofs.calls.exact_frame.Statement.{statement}
-use Rattle.receiver.proofs.calls.exact_frame.Tie as tie
+use Rattle.receiver.proofs.frame_report.exact_frame.Statement.{statement}
+use Rattle.receiver.proofs.frame_report.exact_frame.Tie as tie
 
 full : (c : tie.Else1) → c .before .before .args .rows ≡ receiverLen (c .before .before .args .s)
 full c = c .if1 .left ∙ c .before .receiver-len .ensures

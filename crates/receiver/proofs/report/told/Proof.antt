@@ -15,8 +15,8 @@ use Rattle.protocol.specs.declared.Reply.the-variants as reply
 use Rattle.protocol.specs.Lengths.{lastSlot, messageLen}
 use Rattle.protocol.specs.Verdict.{verdict, bufferOf}
 use Rattle.protocol.specs.Calls.{messageDue}
-use Rattle.receiver.proofs.calls.told.Statement.{statement}
-use Rattle.receiver.proofs.calls.told.Tie as tie
+use Rattle.receiver.proofs.report.told.Statement.{statement}
+use Rattle.receiver.proofs.report.told.Tie as tie
 
 returns : tie.Need-returns
 unfolding bufferOf

@@ -21,8 +21,8 @@ use Rattle.protocol.specs.Lengths.{lastSlot, messageLen, bodyLen, frameLen, row
 use Rattle.receiver.proofs.HeaderTests.{mark-test, five-test, slot-test}
 use Rattle.receiver.proofs.Outcomes.{frameLengths, heard-settings, heard-length, heard-late, heard-mark, heard-five, heard-slot, heard-taken, moved-by}
 use Rattle.receiver.proofs.RowEnds.{kept}
-use Rattle.receiver.proofs.calls.heard.Statement.{statement}
-use Rattle.receiver.proofs.calls.heard.Tie as tie
+use Rattle.receiver.proofs.frame_report.heard.Statement.{statement}
+use Rattle.receiver.proofs.frame_report.heard.Tie as tie
 
 -- ---- what the tests that were passed say
 

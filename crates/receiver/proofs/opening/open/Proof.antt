@@ -18,8 +18,8 @@ use Rattle.protocol.specs.Lengths.{rowLen, receiverLen}
 use Rattle.protocol.proofs.ReportChain.{opened-receiver}
 use Rattle.receiver.proofs.Outcomes.{open-settings, open-length}
 use Rattle.receiver.proofs.OpenedRows.{opened-rows}
-use Rattle.receiver.proofs.calls.open.Statement.{statement}
-use Rattle.receiver.proofs.calls.open.Tie as tie
+use Rattle.receiver.proofs.opening.open.Statement.{statement}
+use Rattle.receiver.proofs.opening.open.Tie as tie
 
 passed : (c : tie.Else1) → T (accepted (c .before .before .before .args .s))
 passed c = subst⁻¹ T (sym (c .before .accepted .ensures) ∙ not-false (c .before .accepted .result) (c .if1 .left)) tt

@@ -16,8 +16,8 @@ use Rattle.protocol.specs.Calls.{Reported}
 use Rattle.protocol.specs.Lengths.{lastSlot, messageLen, rowLen, receiverLen}
 use Rattle.receiver.proofs.Outcomes.{lossLengths, loss-settings, loss-length, loss-late, loss-taken, moved-by}
 use Rattle.receiver.proofs.RowEnds.{kept}
-use Rattle.receiver.proofs.calls.loss.Statement.{statement}
-use Rattle.receiver.proofs.calls.loss.Tie as tie
+use Rattle.receiver.proofs.loss_report.loss.Statement.{statement}
+use Rattle.receiver.proofs.loss_report.loss.Tie as tie
 
 -- ---- what the tests that were passed say
 

@@ -1,0 +1,55 @@
+// The receiver's opening.
+use crate::rows::receive_zeros;
+use code::Settings;
+use protocol::Answer;
+use protocol::Cause;
+use protocol::Receiver;
+use protocol::receiver_len;
+use protocol::row_len;
+ghost use mathlib.Core.Path.{_≡_};
+ghost use Rattle.protocol.specs.Calls.{openReceiverOf};
+
+// What an opening gives back.
+pub struct Opened {
+    pub answer: Answer,
+    pub receiver: Receiver,
+}
+
+// The state of a refused opening: zeros.
+const CLOSED: Receiver = Receiver {
+    settings: Settings {
+        window: 0,
+        delay: 0,
+        burst: 0,
+        scattered: 0,
+        lanes: 0,
+    },
+    due: 0,
+};
+
+// Opens a receiver at slot 0, its rows received zeros.
+pub fn open(s: Settings, rows: &mut [u8]) -> Opened
+    ensures { λ r. ⌜ record { answer = r .answer; receiver = r .receiver; rows = now (rows .exit) } ≡ openReceiverOf s (now (rows .entry)) ⌝ }
+{
+    let none = CLOSED;
+    if !s.accepted() {
+        return Opened {
+            answer: Answer::Refused(Cause::BadSettings),
+            receiver: none,
+        };
+    }
+    if rows.len() != receiver_len(s) {
+        return Opened {
+            answer: Answer::Refused(Cause::BadLength),
+            receiver: none,
+        };
+    }
+    receive_zeros(rows, row_len(s));
+    Opened {
+        answer: Answer::Accepted,
+        receiver: Receiver {
+            settings: s,
+            due: 0,
+        },
+    }
+}

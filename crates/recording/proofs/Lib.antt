@@ -1,0 +1,2 @@
+-- The laws that a caller cites.
+pub mod FoundLaws

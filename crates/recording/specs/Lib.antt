@@ -1,0 +1,2 @@
+-- What stands at an offset of a recording.
+pub mod Found
