@@ -14,6 +14,7 @@ pub mod SenderRows
 pub mod SentFrames
 pub mod SenderList
 pub mod HeaderBytes
+pub mod HeaderTests
 pub mod ReportCauses
 pub mod ReportSteps
 pub mod ReportChain

@@ -5,6 +5,7 @@ mod lengths;
 mod slices;
 
 use code::Settings;
+pub use header::agrees;
 pub use header::header_bytes;
 pub use lengths::body_len;
 pub use lengths::frame_len;

@@ -3,7 +3,6 @@ pub mod Places
 pub mod SameValues
 pub mod Marks
 pub mod LaneSaid
-pub mod HeaderTests
 pub mod Outcomes
 pub mod OpenedRows
 pub mod RowEnds

@@ -2,12 +2,12 @@
 use crate::report::Reported;
 use crate::report::refused;
 use crate::report::told;
-use crate::rows::agrees;
 use crate::rows::record_heard;
 use code::Settings;
 use protocol::Cause;
 use protocol::Receiver;
 use protocol::Slot;
+use protocol::agrees;
 use protocol::frame_len;
 use protocol::header_bytes;
 use protocol::message_len;

@@ -1,14 +1,13 @@
-// What an opening and a report write into the receiver's rows, and whether a frame has the header due.
+// What an opening and a report write into the receiver's rows.
 use code::Settings;
 use protocol::row_count;
 use protocol::row_len;
 ghost use mathlib.Core.Bool.{cond};
 ghost use mathlib.Core.List.{_∷_, _++_};
 ghost use mathlib.Core.Path.{_≡_};
-ghost use Prim.Native.Nat.{_+_, _-_, _%_, _≤_, _<_};
+ghost use Prim.Native.Nat.{_+_, _%_, _≤_, _<_};
 ghost use lib.Dec.{T, eqb};
-ghost use lib.ListN.{length, getD, take, drop, replicate};
-ghost use Rattle.galois.specs.Bounded.{every};
+ghost use lib.ListN.{length, take, drop, replicate};
 ghost use Rattle.code.specs.Settings.{accepted};
 ghost use Rattle.code.specs.Table.{table};
 ghost use Rattle.protocol.specs.Lengths.{frameLen, rowLen, rowCount, receiverLen};
@@ -64,19 +63,4 @@ pub(crate) fn record_lost(rows: &mut [u8], s: Settings, due: u32)
     let row = due as usize % row_count(s);
     let size = row_len(s);
     write_lost(rows, row * size, size);
-}
-
-// Whether the frame has the header's bytes at the places from `first` up to `end`.
-pub(crate) fn agrees(frame: &[u8], head: [u8; 14], first: usize, end: usize) -> bool
-    requires { ⌜ (first ≤ end) × (end ≤ 14) × (14 ≤ length (now frame)) ⌝ }
-    ensures { λ r. ⌜ r ≡ every (end - first) (λ i. eqb (getD (now (frame .entry)) (first + i) 0) (getD head (first + i) 0)) ⌝ }
-{
-    let mut i = first;
-    while i < end {
-        if frame[i] != head[i] {
-            return false;
-        }
-        i += 1;
-    }
-    true
 }

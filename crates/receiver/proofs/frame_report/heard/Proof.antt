@@ -18,7 +18,7 @@ use Rattle.protocol.specs.Calls.{Reported}
 use Rattle.protocol.specs.Causes.{agree}
 use Rattle.protocol.specs.Frame.{mark, five, slotBytes}
 use Rattle.protocol.specs.Lengths.{lastSlot, messageLen, bodyLen, frameLen, rowLen, receiverLen}
-use Rattle.receiver.proofs.HeaderTests.{mark-test, five-test, slot-test}
+use Rattle.protocol.proofs.HeaderTests.{mark-test, five-test, slot-test}
 use Rattle.receiver.proofs.Outcomes.{frameLengths, heard-settings, heard-length, heard-late, heard-mark, heard-five, heard-slot, heard-taken, moved-by}
 use Rattle.receiver.proofs.RowEnds.{kept}
 use Rattle.receiver.proofs.frame_report.heard.Statement.{statement}

@@ -11,8 +11,8 @@ use borrow.Author.Tests.{eq-eqb}
 use lib.ListN.{getD}
 use Rattle.galois.specs.Bounded.{every}
 use Rattle.galois.proofs.Cases.{is-true, is-false, at, all-below}
-use Rattle.receiver.proofs.rows.agrees.Statement.{statement}
-use Rattle.receiver.proofs.rows.agrees.Tie as tie
+use Rattle.protocol.proofs.header.agrees.Statement.{statement}
+use Rattle.protocol.proofs.header.agrees.Tie as tie
 
 abbrev Inv-loop : tie.InvT-loop
 Inv-loop frame first end head i₀ i =

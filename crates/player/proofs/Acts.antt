@@ -1,0 +1,166 @@
+-- What one step comes to, by what stands at the player's offset; and the receiver that a report leaves where it isn't refused.
+use mathlib.Core.Path.{_≡_, refl}
+use mathlib.Core.Bool.{Bool, true, false, not, _||_}
+use mathlib.Core.List.{List, _∷_}
+use Prim.Native.Nat.{ℕ, _+_, _-_, _≤_, _<_}
+use native.Mathlib.Omega.{arith}
+use lib.Dec.{ltb}
+use lib.ListN.{length, take, drop, replicate}
+use borrow.Author.Tests.{ltb-false, le-ltb, lt-ltb}
+use Rattle.code.specs.declared.settings.Settings.{Settings}
+use Rattle.protocol.specs.declared.Receiver.{Receiver}
+use Rattle.protocol.specs.declared.Cause.{Cause}
+use Rattle.protocol.specs.declared.Cause.the-variants.{BadLength, OtherMark, OtherSettings, OtherSlot}
+use Rattle.protocol.specs.Lengths.{frameLen, rowLen}
+use Rattle.protocol.specs.Frame.{mark, five}
+use Rattle.protocol.specs.Causes.{Found, nothing, cause, check, agree, lossCause, frameCause}
+use Rattle.protocol.specs.Calls.{movedOn, lossOf, heardOf}
+use Rattle.protocol.proofs.CauseTables.{check-nothing}
+use Rattle.protocol.proofs.ReportSteps.{loss-moves, loss-stays, heard-moves, heard-stays}
+use Rattle.recording.specs.declared.Found.the-variants.{Part}
+use Rattle.recording.specs.Found.{foundAt}
+use Rattle.recording.proofs.FoundLaws.{end-stands, frame-stands}
+use Rattle.player.specs.declared.Player.{Player}
+use Rattle.player.specs.Transcript.{slotIn, frameStop, refuses}
+use Rattle.player.specs.Steps.{endAct, stopAct, reportAct, frameAct, actOf}
+
+-- a frame has at least its header
+pub frame-some : (s : Settings) → 0 < frameLen s
+unfolding frameLen
+frame-some s = omega arith
+
+-- ---- the receiver after a report
+
+-- the receiver at its next slot
+abbrev pub onward : Receiver → Receiver
+onward x = record { settings = x .settings; due = x .due + 1 }
+
+-- a report that moves on leaves the receiver at its next slot
+moved-onward : (x : Receiver) (row rows : List ℕ) → movedOn x row rows .receiver ≡ onward x
+unfolding movedOn
+moved-onward x row rows = refl
+
+-- a loss that isn't refused moves on
+pub loss-onward : (x : Receiver) (rows message : List ℕ) → refuses (lossOf x rows message .reply) ≡ false
+    → lossOf x rows message .receiver ≡ onward x
+loss-onward x rows message e = go (lossCause x rows message) refl
+  where
+    go : (f : Found) → lossCause x rows message ≡ f → lossOf x rows message .receiver ≡ onward x
+    go nothing is = rw (loss-moves x rows message is) (moved-onward x (replicate (rowLen (x .settings)) 0) rows)
+    go (cause c) is =
+        let no : true ≡ false = rw (loss-stays x rows message c is) at e in
+        let z : _≡_ {A = ℕ} 0 1 = cc in absurd (omega arith)
+
+-- and so does a frame that isn't refused
+pub heard-onward : (x : Receiver) (rows frame message : List ℕ) → refuses (heardOf x rows frame message .reply) ≡ false
+    → heardOf x rows frame message .receiver ≡ onward x
+heard-onward x rows frame message e = go (frameCause x rows frame message) refl
+  where
+    go : (f : Found) → frameCause x rows frame message ≡ f → heardOf x rows frame message .receiver ≡ onward x
+    go nothing is = rw (heard-moves x rows frame message is) (moved-onward x (1 ∷ drop 14 frame) rows)
+    go (cause c) is =
+        let no : true ≡ false = rw (heard-stays x rows frame message c is) at e in
+        let z : _≡_ {A = ℕ} 0 1 = cc in absurd (omega arith)
+
+-- ---- a frame that passes
+
+-- neither of two tests holds
+neither : (a b : Bool) → (a || b) ≡ false → (a ≡ false) × (b ≡ false)
+neither true b e = let z : _≡_ {A = ℕ} 0 1 = cc in absurd (omega arith)
+neither false b e = (refl, e)
+
+-- its mark and settings are the receiver's, and its slot isn't too low or too high
+pub record Passing (x : Receiver) (frame : List ℕ) : Type 0 where
+  pub marked : not (agree 5 frame (mark 1)) ≡ false
+  pub own : not (agree 5 (drop 5 frame) (five (x .settings))) ≡ false
+  pub low : x .due ≤ slotIn frame
+  pub high : slotIn frame ≤ x .due + 4095
+
+module _ (x : Receiver) (frame : List ℕ) where
+  -- a frame that doesn't stop the player passes
+  pub stop-passing : frameStop x frame ≡ nothing → Passing x frame
+  unfolding frameStop
+  stop-passing e =
+      let slot : Bool = ltb (slotIn frame) (x .due) || ltb (x .due + 4095) (slotIn frame) in
+      let settings : Bool = not (agree 5 (drop 5 frame) (five (x .settings))) in
+      let a =
+      check-nothing (not (agree 5 frame (mark 1))) OtherMark (check settings OtherSettings (check slot OtherSlot nothing)) e in
+      let b = check-nothing settings OtherSettings (check slot OtherSlot nothing) (a .1) in
+      let c = check-nothing slot OtherSlot nothing (b .1) in
+      let d = neither (ltb (slotIn frame) (x .due)) (ltb (x .due + 4095) (slotIn frame)) (c .0) in
+      record {
+        marked = a .0;
+        own = b .0;
+        low = ltb-false (slotIn frame) (x .due) (d .0);
+        high = ltb-false (x .due + 4095) (slotIn frame) (d .1);
+      }
+
+  -- and the other way round
+  pub passing-stop : Passing x frame → frameStop x frame ≡ nothing
+  unfolding frameStop
+  passing-stop h =
+      rw (
+        h .marked,
+        h .own,
+        le-ltb (slotIn frame) (x .due) (h .low),
+        le-ltb (x .due + 4095) (slotIn frame) (h .high),
+      )
+
+  -- a frame that passes where its slot is above the slot due passes at the next slot too
+  pub passing-onward : frameStop x frame ≡ nothing → x .due < slotIn frame → Passing (onward x) frame
+  passing-onward e above =
+      let h = stop-passing e in
+      record { marked = h .marked; own = h .own; low = omega arith; high = omega arith }
+
+-- ---- the acts
+
+-- a player by its parts
+abbrev pub playerAt : Receiver → ℕ → Player
+playerAt x offset = record { receiver = x; offset = offset }
+
+-- the frame at its offset
+abbrev pub frameAt : List ℕ → Player → List ℕ
+frameAt recording p = take (frameLen (p .receiver .settings)) (drop (p .offset) recording)
+
+-- where nothing is left of the recording, the end
+pub act-end : (recording : List ℕ) (p : Player) (rows message : List ℕ) → length recording ≤ p .offset
+    → actOf p recording rows message ≡ endAct p rows message
+unfolding actOf
+act-end recording p rows message past =
+    rw (end-stands recording (p .offset) (frameLen (p .receiver .settings)) past, actOf)
+
+-- where a part of a frame is left, a refusal
+pub act-part : (recording : List ℕ) (p : Player) (rows message : List ℕ)
+    → foundAt recording (p .offset) (frameLen (p .receiver .settings)) ≡ Part
+    → actOf p recording rows message ≡ stopAct p rows message BadLength
+unfolding actOf
+act-part recording p rows message e = rw (e, actOf)
+
+module _ (recording : List ℕ) (p : Player) (fits : p .offset + frameLen (p .receiver .settings) ≤ length recording)
+    (rows message : List ℕ) where
+  -- where a frame is left, the act of that frame
+  act-frame : actOf p recording rows message ≡ frameAct p (frameAt recording p) (p .offset + frameLen (p .receiver .settings)) rows message
+  unfolding actOf
+  act-frame =
+      let size : ℕ = frameLen (p .receiver .settings) in
+      let same : p .offset + size - p .offset ≡ size = omega arith in
+      rw (frame-stands recording (p .offset) size (frame-some (p .receiver .settings)) fits, actOf, same)
+
+  -- a frame that stops the player
+  pub act-stop : (c : Cause) → frameStop (p .receiver) (frameAt recording p) ≡ cause c
+      → actOf p recording rows message ≡ stopAct p rows message c
+  unfolding frameAct
+  act-stop c e = rw (act-frame, frameAct, e)
+
+  -- a frame above the slot due: the slot due is a loss
+  pub act-loss : frameStop (p .receiver) (frameAt recording p) ≡ nothing → p .receiver .due < slotIn (frameAt recording p)
+      → actOf p recording rows message ≡ reportAct (p .receiver) (p .offset) (lossOf (p .receiver) rows message)
+  unfolding frameAct
+  act-loss e above = rw (act-frame, frameAct, e, lt-ltb (p .receiver .due) (slotIn (frameAt recording p)) above)
+
+  -- a frame at the slot due: it is reported
+  pub act-heard : frameStop (p .receiver) (frameAt recording p) ≡ nothing → slotIn (frameAt recording p) ≤ p .receiver .due
+      → actOf p recording rows message
+      ≡ reportAct (p .receiver) (p .offset + frameLen (p .receiver .settings)) (heardOf (p .receiver) rows (frameAt recording p) message)
+  unfolding frameAct
+  act-heard e reached = rw (act-frame, frameAct, e, le-ltb (p .receiver .due) (slotIn (frameAt recording p)) reached)

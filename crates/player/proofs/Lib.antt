@@ -1,0 +1,12 @@
+-- The laws that the functions' proofs cite, and the theorem that the steps print the transcript.
+pub mod Decimals
+pub mod HexDigits
+pub mod TextLaws
+pub mod TextCases
+pub mod WrittenLines
+pub mod StartLaws
+pub mod StopLaws
+pub mod Acts
+pub mod Played
+pub mod StepsLeft
+pub mod StepOutcomes

@@ -1,0 +1,97 @@
+-- A measure of the steps left, which falls at every step that leaves more to play.
+use mathlib.Core.Path.{_≡_, refl}
+use mathlib.Core.Bool.{Bool, true, false}
+use mathlib.Core.List.{List}
+use Prim.Native.Nat.{ℕ, _+_, _-_, _*_, _≤_, _<_, min}
+use native.Mathlib.Omega.{arith}
+use lib.Dec.{ltb}
+use lib.ListN.{length}
+use borrow.Author.Tests.{ltb-true, ltb-false}
+use Rattle.protocol.specs.declared.Receiver.{Receiver}
+use Rattle.protocol.specs.declared.Cause.{Cause}
+use Rattle.protocol.specs.declared.Cause.the-variants.{BadLength}
+use Rattle.protocol.specs.Lengths.{frameLen}
+use Rattle.protocol.specs.Causes.{Found, nothing, cause}
+use Rattle.protocol.specs.Calls.{Reported, lossOf, heardOf}
+use Rattle.recording.proofs.FoundLaws.{Standing, standing}
+use Rattle.player.specs.declared.Player.{Player}
+use Rattle.player.specs.declared.Turn.the-variants.{More, Over}
+use Rattle.player.specs.Transcript.{slotIn, frameStop, refuses}
+use Rattle.player.specs.Steps.{Act, endAct, stopAct, reportAct, actOf}
+use Rattle.player.proofs.Acts.{frame-some, loss-onward, stop-passing, frameAt, act-end, act-part, act-stop, act-loss, act-heard}
+
+-- the bytes left, and the slots to skip before the frame at the offset; a byte counts for more than the slots of any frame that passes
+unfoldable pub stepsLeft : List ℕ → Player → ℕ
+stepsLeft recording p =
+    (length recording - p .offset) * 4097
+    + min 4096 (slotIn (frameAt recording p) - p .receiver .due)
+
+-- a report that leaves more to play wasn't refused
+report-free : (x : Receiver) (offset : ℕ) (r : Reported) → reportAct x offset r .turn ≡ More → refuses (r .reply) ≡ false
+unfolding reportAct
+report-free x offset r more = go (refuses (r .reply)) refl
+  where
+    go : (b : Bool) → refuses (r .reply) ≡ b → refuses (r .reply) ≡ false
+    go true is =
+        let over : Over ≡ More = rw (is, reportAct) at more in
+        let z : _≡_ {A = ℕ} 0 1 = cc in absurd (omega arith)
+    go false is = is
+
+module _ (p : Player) (recording : List ℕ) where
+  -- fewer steps are left after an act that leaves more to play
+  abbrev Falls : Act → Type 0
+  Falls a = a .turn ≡ More → stepsLeft recording (a .player) < stepsLeft recording p
+
+  -- the end leaves nothing to play
+  end-falls : (rows message : List ℕ) → Falls (endAct p rows message)
+  unfolding endAct
+  end-falls rows message more = let z : _≡_ {A = ℕ} 0 1 = cc in absurd (omega arith)
+
+  -- nor does a refusal
+  stop-falls : (rows message : List ℕ) (c : Cause) → Falls (stopAct p rows message c)
+  unfolding stopAct
+  stop-falls rows message c more = let z : _≡_ {A = ℕ} 0 1 = cc in absurd (omega arith)
+
+  -- after a loss the frame is the same, and one slot fewer is to skip
+  loss-falls : (rows message : List ℕ) → frameStop (p .receiver) (frameAt recording p) ≡ nothing
+      → p .receiver .due < slotIn (frameAt recording p)
+      → Falls (reportAct (p .receiver) (p .offset) (lossOf (p .receiver) rows message))
+  unfolding reportAct stepsLeft
+  loss-falls rows message passes above more =
+      let free = report-free (p .receiver) (p .offset) (lossOf (p .receiver) rows message) more in
+      let pass = stop-passing (p .receiver) (frameAt recording p) passes in
+      rw (loss-onward (p .receiver) rows message free) (omega arith)
+
+  -- after a report that moves the offset past a frame fewer bytes are left
+  heard-falls : p .offset + frameLen (p .receiver .settings) ≤ length recording → (r : Reported)
+      → Falls (reportAct (p .receiver) (p .offset + frameLen (p .receiver .settings)) r)
+  unfolding reportAct stepsLeft
+  heard-falls fits r more = let some = frame-some (p .receiver .settings) in omega arith
+
+  -- at a frame, by its tests
+  frame-falls : (rows message : List ℕ) → p .offset + frameLen (p .receiver .settings) ≤ length recording
+      → (f : Found) → frameStop (p .receiver) (frameAt recording p) ≡ f
+      → (b : Bool) → ltb (p .receiver .due) (slotIn (frameAt recording p)) ≡ b → Falls (actOf p recording rows message)
+  frame-falls rows message fits (cause c) e b test = rw (act-stop recording p fits rows message c e) (stop-falls rows message c)
+  frame-falls rows message fits nothing e true test =
+      let above : p .receiver .due < slotIn (frameAt recording p) = ltb-true (p .receiver .due) (slotIn (frameAt recording p)) test in
+      rw (act-loss recording p fits rows message e above) (loss-falls rows message e above)
+  frame-falls rows message fits nothing e false test =
+      let reached : slotIn (frameAt recording p) ≤ p .receiver .due = ltb-false (p .receiver .due) (slotIn (frameAt recording p)) test in
+      rw (act-heard recording p fits rows message e reached)
+      (heard-falls fits (heardOf (p .receiver) rows (frameAt recording p) message))
+
+  -- by what stands at the offset
+  act-falls : (rows message : List ℕ) → Standing recording (p .offset) (frameLen (p .receiver .settings))
+      → Falls (actOf p recording rows message)
+  act-falls rows message (Standing.ended past is) = rw (act-end recording p rows message past) (end-falls rows message)
+  act-falls rows message (Standing.short before few is) = rw (act-part recording p rows message is) (stop-falls rows message BadLength)
+  act-falls rows message (Standing.whole some fits is) =
+      frame-falls rows message fits (frameStop (p .receiver) (frameAt recording p)) refl
+      (ltb (p .receiver .due) (slotIn (frameAt recording p))) refl
+
+-- every step that leaves more to play leaves fewer steps
+pub fewer : (p : Player) (recording rows message : List ℕ) → actOf p recording rows message .turn ≡ More
+    → stepsLeft recording (actOf p recording rows message .player) < stepsLeft recording p
+fewer p recording rows message =
+    act-falls p recording rows message (standing recording (p .offset) (frameLen (p .receiver .settings)))

@@ -1,0 +1,88 @@
+-- Each way out is one case of a step at a frame.
+use borrow.Author.Needs.{needs}
+use mathlib.Core.Path.{_≡_, sym, ap, _∙_}
+use native.Mathlib.Omega.{arith}
+use denote.Ref.{now}
+use Rattle.protocol.specs.Calls.{Reported}
+use Rattle.protocol.specs.TwoLists.{reportOf}
+use Rattle.terminal.specs.Given.{reportIn}
+use Rattle.player.specs.Steps.{Act, reportAct, onLine}
+use Rattle.player.proofs.StepOutcomes.{frame-stops, frame-skips, frame-hears, stop-line, report-line}
+use Rattle.player.proofs.steps.at_frame.Statement.{statement}
+use Rattle.player.proofs.steps.at_frame.Tie as tie
+
+abbrev start : tie.After-stop-of → tie.Start
+start c = c .before .before .before .before .before .before
+
+returns : tie.Need-returns
+returns c =
+    let called = c .before .before in
+    let refused = called .before .before .before in
+    let asked = refused .before .before in
+    let a = start asked .args in
+    let why = refused .stop .given .0 .0 in
+    stop-line (now (a .line)) _ _ _ _ (a .p) (now (a .rows)) (now (a .message)) why
+    (called .stopped .ensures .0) (called .stopped .ensures .1) (called .stopped .ensures .2) (called .stopped .ensures .3)
+    ∙ ap (onLine (now (a .line)))
+    (frame-stops (a .p) (now (a .frame)) (a .end) (now (a .rows)) (now (a .message)) why
+    (sym (asked .stop-of .ensures) ∙ refused .stop .given .1))
+
+returns-2 : tie.Need-returns-2
+unfolding reportOf reportIn
+returns-2 c =
+    let called = c .before .before in
+    let kept = called .before .before .before .before .before .before .before in
+    let test = kept .before .before .before in
+    let passed = test .before .before .before in
+    let asked = passed .before .before in
+    let a = start asked .args in
+    let x = a .p .receiver in
+    report-line (now (a .line)) _ _ _ _ x (a .p .offset) _
+    (called .told .ensures .0) (called .told .ensures .1) (called .told .ensures .2) (called .told .ensures .3)
+    ∙ ap (λ (r : Reported). onLine (now (a .line)) (reportAct x (a .p .offset) r)) (kept .report-kept .ensures)
+    ∙ ap (onLine (now (a .line)))
+    (frame-skips (a .p) (now (a .frame)) (a .end) (now (a .rows)) (now (a .message))
+    (sym (asked .stop-of .ensures) ∙ passed .enum-told .given .1)
+    (omega (arith, test .before .before .slot-of .ensures)))
+
+returns-3 : tie.Need-returns-3
+unfolding reportOf reportIn
+returns-3 c =
+    let called = c .before .before in
+    let kept = called .before .before .before .before .before .before .before in
+    let test = kept .before .before .before in
+    let passed = test .before .before .before in
+    let asked = passed .before .before in
+    let a = start asked .args in
+    let x = a .p .receiver in
+    report-line (now (a .line)) _ _ _ _ x (a .end) _
+    (called .told2 .ensures .0) (called .told2 .ensures .1) (called .told2 .ensures .2) (called .told2 .ensures .3)
+    ∙ ap (λ (r : Reported). onLine (now (a .line)) (reportAct x (a .end) r)) (kept .report-kept2 .ensures)
+    ∙ ap (onLine (now (a .line)))
+    (frame-hears (a .p) (now (a .frame)) (a .end) (now (a .rows)) (now (a .message))
+    (sym (asked .stop-of .ensures) ∙ passed .enum-told .given .1)
+    (omega (arith, test .before .before .slot-of .ensures)))
+
+pub at-frame-spec : {M : Type 1} → statement M
+at-frame-spec =
+    tie.close
+    (tie.spec
+    (λ c κs. search needs)
+    (λ c. search needs)
+    (λ c κs. search needs)
+    (λ c. search needs)
+    returns
+    (λ c. search needs)
+    (λ c κs. search needs)
+    (λ c κs. search needs)
+    (λ c κs. search needs)
+    (λ c. search needs)
+    (λ c. search needs)
+    (λ c. search needs)
+    returns-2
+    (λ c κs. search needs)
+    (λ c κs. search needs)
+    (λ c. search needs)
+    (λ c. search needs)
+    (λ c. search needs)
+    returns-3)

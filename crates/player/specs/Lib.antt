@@ -1,0 +1,4 @@
+pub mod Text
+pub mod Transcript
+pub mod Steps
+pub mod Printed

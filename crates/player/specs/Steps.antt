@@ -1,0 +1,143 @@
+-- Playing in steps: how a recording starts, and one step as a function of the player and every lent list.
+use mathlib.Core.Bool.{true, false}
+use mathlib.Core.List.{List, []}
+use Prim.Native.Nat.{ℕ, _+_, _-_, _*_}
+use lib.Dec.{eqb, ltb}
+use lib.ListN.{length, take, drop, replicate}
+use Rattle.code.specs.declared.settings.Settings.{Settings}
+use Rattle.protocol.specs.declared.Receiver.{Receiver}
+use Rattle.protocol.specs.declared.Cause.{Cause}
+use Rattle.protocol.specs.declared.Cause.the-variants.{BadLength}
+use Rattle.protocol.specs.Lengths.{frameLen}
+use Rattle.protocol.specs.declared.Reply.{Reply}
+use Rattle.protocol.specs.declared.Answer.{Answer}
+use Rattle.protocol.specs.declared.Answer.the-variants.{Accepted, Refused}
+use Rattle.protocol.specs.Causes.{Found, nothing, cause}
+use Rattle.protocol.specs.Calls.{openReceiverOf, Reported, messageDue, lossOf, heardOf}
+use Rattle.recording.specs.declared.Found.the-variants.{Frame, Part, End}
+use Rattle.recording.specs.Found.{foundAt}
+use Rattle.player.specs.declared.Player.{Player}
+use Rattle.player.specs.declared.Start.{Start}
+use Rattle.player.specs.declared.Start.the-variants.{Empty, Stop, Play}
+use Rattle.player.specs.declared.Turn.{Turn}
+use Rattle.player.specs.declared.Turn.the-variants.{NoRoom, More, Over}
+use Rattle.player.specs.Text.{stopLine, lineOf, written}
+use Rattle.player.specs.Transcript.{settingsIn, recordingCause, slotIn, frameStop, refuses}
+
+-- the first cause that holds, as an answer
+abbrev pub answerOf : Found → Answer
+answerOf nothing = Accepted
+answerOf (cause c) = Refused c
+
+-- ---- the start
+
+-- how a recording starts: the tests before any line
+unfoldable pub startOf : List ℕ → Start
+startOf recording =
+    elim (eqb (length recording) 0) [
+      | true ↦ Empty
+      | false ↦ elim (recordingCause recording) [
+        | cause c ↦ Stop c
+        | nothing ↦ Play (settingsIn recording)
+      ]
+    ]
+
+pub record Begun : Type 0 where
+  pub player : Player
+  pub rows : List ℕ
+  pub message : List ℕ
+
+-- a player at the start of a recording: its receiver is opened on the lent rows, and the message buffer is zeros
+unfoldable pub beginOf : Settings → List ℕ → List ℕ → Begun
+beginOf s rows message =
+    record {
+      player = record { receiver = openReceiverOf s rows .receiver; offset = 0 };
+      rows = openReceiverOf s rows .rows;
+      message = replicate (length message) 0;
+    }
+
+-- ---- a step
+
+-- what a step prints, and what it leaves
+pub record Act : Type 0 where
+  pub player : Player
+  pub rows : List ℕ
+  pub message : List ℕ
+  pub text : List ℕ
+  pub turn : Turn
+
+-- the end: nothing is left of the recording
+unfoldable pub endAct : Player → List ℕ → List ℕ → Act
+endAct p rows message = record { player = p; rows = rows; message = message; text = []; turn = Over }
+
+-- a refusal
+unfoldable pub stopAct : Player → List ℕ → List ℕ → Cause → Act
+stopAct p rows message c = record { player = p; rows = rows; message = message; text = stopLine c; turn = Over }
+
+-- a refused report is the last
+unfoldable pub turnOf : Reply → Turn
+turnOf r = elim (refuses r) [ true ↦ Over | false ↦ More ]
+
+-- a report of the slot due, after which the next frame starts at this offset
+unfoldable pub reportAct : Receiver → ℕ → Reported → Act
+reportAct x offset r =
+    record {
+      player = record { receiver = r .receiver; offset = offset };
+      rows = r .rows;
+      message = r .message;
+      text = lineOf (messageDue (x .settings) (x .due)) (r .reply) (r .message);
+      turn = elim (refuses (r .reply)) [ true ↦ Over | false ↦ More ];
+    }
+
+-- at a frame that ends at this offset: it stops the player, or the slot due is below its own and is lost, or it is reported
+unfoldable pub frameAct : Player → List ℕ → ℕ → List ℕ → List ℕ → Act
+frameAct p frame end rows message =
+    let x : Receiver = p .receiver in
+    elim (frameStop x frame) [
+      | cause c ↦ stopAct p rows message c
+      | nothing ↦ elim (ltb (x .due) (slotIn frame)) [
+        | true ↦ reportAct x (p .offset) (lossOf x rows message)
+        | false ↦ reportAct x end (heardOf x rows frame message)
+      ]
+    ]
+
+-- one step: by what stands at the player's offset
+unfoldable pub actOf : Player → List ℕ → List ℕ → List ℕ → Act
+actOf p recording rows message =
+    elim (foundAt recording (p .offset) (frameLen (p .receiver .settings))) [
+      | End ↦ endAct p rows message
+      | Part ↦ stopAct p rows message BadLength
+      | Frame start end ↦ frameAct p (take (end - start) (drop start recording)) end rows message
+    ]
+
+-- what the longest line takes: ten digits, ` whole `, the message in hex, and the line's end
+unfoldable pub longest : List ℕ → ℕ
+longest message = 18 + 2 * length message
+
+pub record Stepped : Type 0 where
+  pub player : Player
+  pub rows : List ℕ
+  pub message : List ℕ
+  pub line : List ℕ
+  pub len : ℕ
+  pub turn : Turn
+
+-- a step that prints over the start of a lent line
+unfoldable pub onLine : List ℕ → Act → Stepped
+onLine line a =
+    record {
+      player = a .player;
+      rows = a .rows;
+      message = a .message;
+      line = written (a .text) line;
+      len = length (a .text);
+      turn = a .turn;
+    }
+
+-- a step with a lent line, which must have room for the longest
+unfoldable pub stepOf : Player → List ℕ → List ℕ → List ℕ → List ℕ → Stepped
+stepOf p recording rows message line =
+    elim (ltb (length line) (longest message)) [
+      | true ↦ record { player = p; rows = rows; message = message; line = line; len = 0; turn = NoRoom }
+      | false ↦ onLine line (actOf p recording rows message)
+    ]

@@ -1,0 +1,61 @@
+-- Document 01, "Playing a recording": the lines, as bytes.
+use mathlib.Core.Bool.{true, false, cond}
+use mathlib.Core.List.{List, [], _∷_, _++_}
+use Prim.Native.Nat.{ℕ, zero, suc, _+_, _/_, _%_}
+use lib.Dec.{ltb}
+use lib.ListN.{length, drop}
+use Rattle.protocol.specs.declared.Cause.{Cause}
+use Rattle.protocol.specs.declared.Reply.{Reply}
+use Rattle.protocol.specs.declared.Reply.the-variants.{Refused, NoneYet, Whole, Lost, Clash}
+use Rattle.protocol.specs.Causes.{numberOf}
+
+-- a digit below 16, in lower case
+abbrev pub glyph : ℕ → ℕ
+glyph d = cond (ltb d 10) (48 + d) (87 + d)
+
+-- the decimal digits of a number that has at most one more than these
+unfoldable pub decimalUpTo : ℕ → ℕ → List ℕ
+decimalUpTo zero n = glyph (n % 10) ∷ []
+decimalUpTo (suc more) n =
+    elim (ltb n 10) [
+      | true ↦ glyph n ∷ []
+      | false ↦ decimalUpTo more (n / 10) ++ (glyph (n % 10) ∷ [])
+    ]
+
+-- a slot's number in decimal: 32 bits have at most ten digits
+unfoldable pub decimal : ℕ → List ℕ
+decimal n = decimalUpTo 9 n
+
+-- bytes in lower-case hex
+abbrev pub hex : List ℕ → List ℕ
+hex [] = []
+hex (b ∷ bs) = glyph (b / 16) ∷ glyph (b % 16) ∷ hex bs
+
+-- ` whole `, ` lost` and ` clash` with the line's end, and `stop `
+abbrev pub wholeWord : List ℕ
+wholeWord = 32 ∷ 119 ∷ 104 ∷ 111 ∷ 108 ∷ 101 ∷ 32 ∷ []
+
+abbrev pub lostWord : List ℕ
+lostWord = 32 ∷ 108 ∷ 111 ∷ 115 ∷ 116 ∷ 10 ∷ []
+
+abbrev pub clashWord : List ℕ
+clashWord = 32 ∷ 99 ∷ 108 ∷ 97 ∷ 115 ∷ 104 ∷ 10 ∷ []
+
+abbrev pub stopWord : List ℕ
+stopWord = 115 ∷ 116 ∷ 111 ∷ 112 ∷ 32 ∷ []
+
+-- a line of `stop`, a space and the number
+unfoldable pub stopLine : Cause → List ℕ
+stopLine c = stopWord ++ glyph (numberOf c) ∷ 10 ∷ []
+
+-- what a report prints of the message that it tells of: its number, a space, and the reply; after `whole` the message; `none yet` prints no line
+unfoldable pub lineOf : ℕ → Reply → List ℕ → List ℕ
+lineOf about (Refused c) message = stopLine c
+lineOf about NoneYet message = []
+lineOf about Whole message = decimal about ++ wholeWord ++ hex message ++ 10 ∷ []
+lineOf about Lost message = decimal about ++ lostWord
+lineOf about Clash message = decimal about ++ clashWord
+
+-- a text written over the start of a lent line
+unfoldable pub written : List ℕ → List ℕ → List ℕ
+written text line = text ++ drop (length text) line

@@ -1,0 +1,2 @@
+-- What the terminal's functions say.
+pub mod Given
