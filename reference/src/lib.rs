@@ -3,6 +3,9 @@
 
 #![forbid(unsafe_code)]
 
+pub mod against;
+pub mod broadcast;
+pub mod drawn;
 pub mod field;
 pub mod frame;
 pub mod linear;
@@ -10,6 +13,7 @@ pub mod matrix;
 pub mod patterns;
 pub mod play;
 pub mod receiver;
+pub mod recordings;
 pub mod scenarios;
 pub mod sender;
 pub mod settings;

@@ -1,22 +1,50 @@
-//! The program: `reference patterns` prints the pattern test of PATTERNS.md,
-//! `reference scenarios` the scenarios of SCENARIOS.md.
+//! The program: `patterns` prints the pattern test of PATTERNS.md, `scenarios` the scenarios
+//! of SCENARIOS.md; `play` plays a recording, `recordings` writes the examples, and `against`
+//! compares another player, as RECORDINGS.md describes.
 
 #![forbid(unsafe_code)]
 
+use std::io::{self, Read, Write};
+use std::path::Path;
 use std::process::ExitCode;
+
+const USAGE: &str =
+    "usage: reference patterns | scenarios | play | recordings DIR | against PROGRAM [ARGUMENT..]";
 
 fn main() -> ExitCode {
     let arguments: Vec<String> = std::env::args().skip(1).collect();
-    let lines = match arguments.iter().map(String::as_str).collect::<Vec<_>>()[..] {
-        ["patterns"] => reference::patterns::lines(),
-        ["scenarios"] => reference::scenarios::lines(),
-        _ => {
-            eprintln!("usage: reference patterns | scenarios");
-            return ExitCode::from(2);
-        }
+    let done = match arguments.iter().map(String::as_str).collect::<Vec<_>>()[..] {
+        ["patterns"] => print(&reference::patterns::lines()),
+        ["scenarios"] => print(&reference::scenarios::lines()),
+        ["play"] => play(),
+        ["recordings", directory] => reference::recordings::write(Path::new(directory)),
+        ["against", program, ..] => return against(program, &arguments[2..]),
+        _ => Err(io::Error::other(USAGE)),
     };
-    for line in lines {
-        println!("{line}");
+    match done {
+        Ok(()) => ExitCode::SUCCESS,
+        Err(error) => {
+            eprintln!("{error}");
+            ExitCode::from(2)
+        }
     }
-    ExitCode::SUCCESS
+}
+
+fn print(lines: &[String]) -> io::Result<()> {
+    let text: String = lines.iter().map(|line| format!("{line}\n")).collect();
+    io::stdout().write_all(text.as_bytes())
+}
+
+/// Standard input is the recording.
+fn play() -> io::Result<()> {
+    let mut recording = Vec::new();
+    io::stdin().read_to_end(&mut recording)?;
+    io::stdout().write_all(&reference::play::transcript(&recording))
+}
+
+fn against(program: &str, arguments: &[String]) -> ExitCode {
+    let alike = reference::against::run(program, arguments);
+    let (Ok(text) | Err(text)) = &alike;
+    let printed = print(std::slice::from_ref(text));
+    if alike.is_ok() && printed.is_ok() { ExitCode::SUCCESS } else { ExitCode::from(1) }
 }

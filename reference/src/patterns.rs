@@ -30,6 +30,11 @@ impl Draws {
     pub fn byte(&mut self) -> Byte {
         Byte(self.below(256) as u8)
     }
+
+    /// So many bytes, by rising index.
+    pub fn bytes(&mut self, count: usize) -> Vec<u8> {
+        (0..count).map(|_| self.byte().0).collect()
+    }
 }
 
 /// All lines of the test, without their newlines.

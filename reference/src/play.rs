@@ -10,13 +10,13 @@ pub const LONGEST: usize = 64 * 1024;
 /// A frame's slot is at most this far above the slot due.
 pub const FURTHEST: u32 = 4095;
 
-/// What the program prints for a recording.
-pub fn play(recording: &[u8]) -> String {
+/// The bytes that the program prints for a recording.
+pub fn transcript(recording: &[u8]) -> Vec<u8> {
     let mut text = String::new();
     if let Err(refusal) = play_into(recording, &mut text) {
         text += &format!("stop {}\n", refusal.number());
     }
-    text
+    text.into_bytes()
 }
 
 fn play_into(recording: &[u8], text: &mut String) -> Result<(), Refusal> {

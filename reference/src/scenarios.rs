@@ -136,17 +136,13 @@ struct Scenario<'a> {
     losses_left: usize,
 }
 
-fn drawn_bytes(draws: &mut Draws, length: usize) -> Vec<u8> {
-    (0..length).map(|_| draws.byte().0).collect()
-}
-
 impl<'a> Scenario<'a> {
     /// Step 2: the lent things, every byte drawn.
     fn drawn(draws: &'a mut Draws, lines: &'a mut Vec<String>, settings: Settings) -> Self {
-        let sender_rows = drawn_bytes(draws, sender::rows_length(&settings));
-        let receiver_rows = drawn_bytes(draws, receiver::rows_length(&settings));
-        let frame = drawn_bytes(draws, frame::length(&settings));
-        let message_buffer = drawn_bytes(draws, frame::message_length(&settings));
+        let sender_rows = draws.bytes(sender::rows_length(&settings));
+        let receiver_rows = draws.bytes(receiver::rows_length(&settings));
+        let frame = draws.bytes(frame::length(&settings));
+        let message_buffer = draws.bytes(frame::message_length(&settings));
         Scenario {
             draws,
             lines,
@@ -200,8 +196,8 @@ impl<'a> Scenario<'a> {
 
     /// Step 4: rows with a history of their own, and another slot due.
     fn lend(&mut self, start: u32) {
-        self.sender_rows = drawn_bytes(self.draws, self.sender_rows.len());
-        self.receiver_rows = drawn_bytes(self.draws, self.receiver_rows.len());
+        self.sender_rows = self.draws.bytes(self.sender_rows.len());
+        self.receiver_rows = self.draws.bytes(self.receiver_rows.len());
         for row in 0..receiver::row_count(&self.settings) {
             let first = [1, 0, 7, 7, 7, 7, 7, 7][self.draws.below(8)];
             self.set_first_byte(row, first);
@@ -216,7 +212,7 @@ impl<'a> Scenario<'a> {
 
     /// Step 5, once.
     fn slot(&mut self, kind: Kind) {
-        self.message = drawn_bytes(self.draws, frame::message_length(&self.settings));
+        self.message = self.draws.bytes(frame::message_length(&self.settings));
         if self.draws.below(8) == 0 {
             let faults = self.draws.below(7) + 1;
             let call = self.faulty(self.sender, faults, 3);

@@ -2,10 +2,15 @@
 
 #![forbid(unsafe_code)]
 
+use reference::broadcast;
 use reference::frame;
-use reference::play::play;
+use reference::play::transcript;
 use reference::settings::Settings;
 use reference::state::State;
+
+fn play(recording: &[u8]) -> String {
+    String::from_utf8(transcript(recording)).expect("text")
+}
 
 /// A frame of settings 4, 3, 2, 2, 1 for a slot of case 9.
 fn frame_of_case_9(slot: u32) -> Vec<u8> {
@@ -41,6 +46,27 @@ fn an_empty_recording_prints_nothing() {
 }
 
 #[test]
+fn none_yet_prints_nothing() {
+    assert_eq!(play(&recording(0..=2)), "");
+    assert_eq!(play(&recording([2])), "");
+    assert_eq!(play(&recording(0..=3)), "0 whole 0100\n");
+}
+
+#[test]
+fn a_message_is_printed_in_lower_case_hex() {
+    let sent = [[0xAB, 0xCD], [0xEF, 0x09], [0, 0], [0, 0]].map(Vec::from);
+    let frames = broadcast::of(Settings::of_code(3, 2, 2), &sent);
+    assert_eq!(play(&frames.concat()), "0 whole abcd\n");
+}
+
+#[test]
+fn a_skipped_slot_prints_the_line_that_it_makes_due() {
+    // Slots 0 to 4 are losses, and slots 3 and 4 make messages 0 and 1 due.
+    assert_eq!(play(&recording([5])), "0 lost\n1 lost\n2 lost\n");
+    assert_eq!(play(&recording([0, 1, 2, 5])), "0 whole 0100\n1 whole 0001\n2 whole 0000\n");
+}
+
+#[test]
 fn lost_and_clash_have_their_lines() {
     assert_eq!(play(&recording([3, 4, 5])), "0 lost\n1 lost\n2 whole 0000\n");
     let mut bytes = recording(0..=5);
@@ -71,6 +97,11 @@ fn a_recording_of_64_kib_is_played() {
     assert_eq!(bytes.len(), 65536);
     let expected: String = (0..4095).map(|message| format!("{message} whole 00\n")).collect();
     assert_eq!(play(&bytes), expected);
+    // A frame less is played as well; a byte less, a byte more and a frame more are not.
+    assert_eq!(play(&bytes[..65520]).lines().count(), 4094);
+    assert_eq!(play(&bytes[..65535]), "stop 2\n");
+    assert_eq!(play(&[&bytes[..], &[0]].concat()), "stop 2\n");
+    assert_eq!(play(&[&bytes[..], &bytes[..16]].concat()), "stop 2\n");
 }
 
 #[test]
@@ -85,8 +116,9 @@ fn settings_of_the_first_frame_that_are_not_accepted_stop_with_1() {
 
 #[test]
 fn another_mark_or_version_stops_with_4() {
-    assert_eq!(play(&changed(0, 0x55)), "0 whole 0100\nstop 4\n");
-    assert_eq!(play(&changed(4, 2)), "0 whole 0100\nstop 4\n");
+    for place in 0..5 {
+        assert_eq!(play(&changed(place, 2)), "0 whole 0100\nstop 4\n");
+    }
     let mut first = recording([2]);
     first[1] = 0;
     assert_eq!(play(&first), "stop 4\n");
@@ -107,7 +139,37 @@ fn a_slot_below_or_too_far_above_stops_with_6() {
     assert_eq!(play(&recording([2, 3, 0])), "0 whole 0100\nstop 6\n");
     assert_eq!(play(&recording([4096])), "stop 6\n");
     assert_eq!(play(&recording([2, 3, 4 + 4096])), "0 whole 0100\nstop 6\n");
-    assert_eq!(play(&recording([u32::MAX])), "stop 6\n");
+    for huge in [3_999_999_999, 4_000_000_000, u32::MAX] {
+        assert_eq!(play(&recording([huge])), "stop 6\n");
+        assert_eq!(play(&recording([2, 3, huge])), "0 whole 0100\nstop 6\n");
+    }
+}
+
+#[test]
+fn a_frame_meets_4_before_5_before_6() {
+    // The frame after slots 2 and 3 says slot 3 again, other settings and another version.
+    let mut bytes = recording([2, 3, 3]);
+    bytes[2 * 18 + 5] += 1;
+    assert_eq!(play(&bytes), "0 whole 0100\nstop 5\n");
+    bytes[2 * 18 + 4] += 1;
+    assert_eq!(play(&bytes), "0 whole 0100\nstop 4\n");
+}
+
+#[test]
+fn the_slots_skipped_by_a_refused_frame_are_not_reported() {
+    assert_eq!(play(&recording([2, 3, 9])).lines().count(), 7);
+    for (place, stop) in [(0, 4), (4, 4), (5, 5), (9, 5), (10, 6)] {
+        let mut bytes = recording([2, 3, 9]);
+        bytes[2 * 18 + place] += 1;
+        assert_eq!(play(&bytes), format!("0 whole 0100\nstop {stop}\n"));
+    }
+}
+
+#[test]
+fn the_frames_before_a_refused_one_stay_printed_and_none_after_it_is_played() {
+    let mut bytes = recording(0..=9);
+    bytes[5 * 18] = 0;
+    assert_eq!(play(&bytes), "0 whole 0100\n1 whole 0001\nstop 4\n");
 }
 
 #[test]

@@ -6,7 +6,7 @@ use Prim.Native.Nat.{ℕ, _+_, _-_, _≤_, _<_}
 use native.Mathlib.Omega.{arith}
 use lib.Dec.{ltb}
 use lib.ListN.{length, take, drop, replicate}
-use borrow.Author.Tests.{ltb-false, le-ltb, lt-ltb}
+use borrow.Author.Tests.{ltb-true, ltb-false, le-ltb, lt-ltb}
 use Rattle.code.specs.declared.settings.Settings.{Settings}
 use Rattle.protocol.specs.declared.Receiver.{Receiver}
 use Rattle.protocol.specs.declared.Cause.{Cause}
@@ -19,10 +19,10 @@ use Rattle.protocol.proofs.CauseTables.{check-nothing}
 use Rattle.protocol.proofs.ReportSteps.{loss-moves, loss-stays, heard-moves, heard-stays}
 use Rattle.recording.specs.declared.Found.the-variants.{Part}
 use Rattle.recording.specs.Found.{foundAt}
-use Rattle.recording.proofs.FoundLaws.{end-stands, frame-stands}
+use Rattle.recording.proofs.FoundLaws.{end-stands, frame-stands, Standing, standing}
 use Rattle.player.specs.declared.Player.{Player}
 use Rattle.player.specs.Transcript.{slotIn, frameStop, refuses}
-use Rattle.player.specs.Steps.{endAct, stopAct, reportAct, frameAct, actOf}
+use Rattle.player.specs.Steps.{Act, endAct, stopAct, reportAct, frameAct, actOf}
 
 -- a frame has at least its header
 pub frame-some : (s : Settings) → 0 < frameLen s
@@ -164,3 +164,35 @@ module _ (recording : List ℕ) (p : Player) (fits : p .offset + frameLen (p .re
       ≡ reportAct (p .receiver) (p .offset + frameLen (p .receiver .settings)) (heardOf (p .receiver) rows (frameAt recording p) message)
   unfolding frameAct
   act-heard e reached = rw (act-frame, frameAct, e, le-ltb (p .receiver .due) (slotIn (frameAt recording p)) reached)
+
+-- ---- what holds of every act
+
+module _ (p : Player) (recording rows message : List ℕ) (Q : Act → Type 0)
+    (ended : Q (endAct p rows message))
+    (stopped : (c : Cause) → Q (stopAct p rows message c))
+    (lost : frameStop (p .receiver) (frameAt recording p) ≡ nothing → p .receiver .due < slotIn (frameAt recording p)
+    → Q (reportAct (p .receiver) (p .offset) (lossOf (p .receiver) rows message)))
+    (heard : p .offset + frameLen (p .receiver .settings) ≤ length recording
+    → Q (reportAct (p .receiver) (p .offset + frameLen (p .receiver .settings)) (heardOf (p .receiver) rows (frameAt recording p) message))) where
+  -- at a frame, by its tests
+  at-frame : p .offset + frameLen (p .receiver .settings) ≤ length recording
+      → (f : Found) → frameStop (p .receiver) (frameAt recording p) ≡ f
+      → (b : Bool) → ltb (p .receiver .due) (slotIn (frameAt recording p)) ≡ b → Q (actOf p recording rows message)
+  at-frame fits (cause c) e b test = rw (act-stop recording p fits rows message c e) (stopped c)
+  at-frame fits nothing e true test =
+      let above : p .receiver .due < slotIn (frameAt recording p) = ltb-true (p .receiver .due) (slotIn (frameAt recording p)) test in
+      rw (act-loss recording p fits rows message e above) (lost e above)
+  at-frame fits nothing e false test =
+      let reached : slotIn (frameAt recording p) ≤ p .receiver .due = ltb-false (p .receiver .due) (slotIn (frameAt recording p)) test in
+      rw (act-heard recording p fits rows message e reached) (heard fits)
+
+  -- by what stands at the offset
+  at-offset : Standing recording (p .offset) (frameLen (p .receiver .settings)) → Q (actOf p recording rows message)
+  at-offset (Standing.ended past is) = rw (act-end recording p rows message past) ended
+  at-offset (Standing.short before few is) = rw (act-part recording p rows message is) (stopped BadLength)
+  at-offset (Standing.whole some fits is) =
+      at-frame fits (frameStop (p .receiver) (frameAt recording p)) refl (ltb (p .receiver .due) (slotIn (frameAt recording p))) refl
+
+  -- a step ends, stops, reports a loss, or reports a frame
+  pub every-act : Q (actOf p recording rows message)
+  every-act = at-offset (standing recording (p .offset) (frameLen (p .receiver .settings)))

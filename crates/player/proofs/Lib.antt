@@ -10,3 +10,4 @@ pub mod Acts
 pub mod Played
 pub mod StepsLeft
 pub mod StepOutcomes
+pub mod LoopLaws

@@ -141,7 +141,7 @@ unfolding openReceiverOf
 opens s rows ok exact = rw (open-nothing s (receiverLen s) rows ok exact, openReceiverOf)
 
 -- a recording that passes has accepted settings, and is whole frames
-passed : (recording : List ℕ) → recordingCause recording ≡ nothing
+pub passed : (recording : List ℕ) → recordingCause recording ≡ nothing
     → T (accepted (settingsIn recording)) × (length recording % frameLen (settingsIn recording) ≡ 0)
 unfolding recordingCause
 passed recording e =

@@ -4,21 +4,17 @@ use mathlib.Core.Bool.{Bool, true, false}
 use mathlib.Core.List.{List}
 use Prim.Native.Nat.{ℕ, _+_, _-_, _*_, _≤_, _<_, min}
 use native.Mathlib.Omega.{arith}
-use lib.Dec.{ltb}
 use lib.ListN.{length}
-use borrow.Author.Tests.{ltb-true, ltb-false}
 use Rattle.protocol.specs.declared.Receiver.{Receiver}
 use Rattle.protocol.specs.declared.Cause.{Cause}
-use Rattle.protocol.specs.declared.Cause.the-variants.{BadLength}
 use Rattle.protocol.specs.Lengths.{frameLen}
-use Rattle.protocol.specs.Causes.{Found, nothing, cause}
+use Rattle.protocol.specs.Causes.{nothing}
 use Rattle.protocol.specs.Calls.{Reported, lossOf, heardOf}
-use Rattle.recording.proofs.FoundLaws.{Standing, standing}
 use Rattle.player.specs.declared.Player.{Player}
 use Rattle.player.specs.declared.Turn.the-variants.{More, Over}
 use Rattle.player.specs.Transcript.{slotIn, frameStop, refuses}
 use Rattle.player.specs.Steps.{Act, endAct, stopAct, reportAct, actOf}
-use Rattle.player.proofs.Acts.{frame-some, loss-onward, stop-passing, frameAt, act-end, act-part, act-stop, act-loss, act-heard}
+use Rattle.player.proofs.Acts.{frame-some, loss-onward, stop-passing, frameAt, every-act}
 
 -- the bytes left, and the slots to skip before the frame at the offset; a byte counts for more than the slots of any frame that passes
 unfoldable pub stepsLeft : List ℕ → Player → ℕ
@@ -68,30 +64,10 @@ module _ (p : Player) (recording : List ℕ) where
   unfolding reportAct stepsLeft
   heard-falls fits r more = let some = frame-some (p .receiver .settings) in omega arith
 
-  -- at a frame, by its tests
-  frame-falls : (rows message : List ℕ) → p .offset + frameLen (p .receiver .settings) ≤ length recording
-      → (f : Found) → frameStop (p .receiver) (frameAt recording p) ≡ f
-      → (b : Bool) → ltb (p .receiver .due) (slotIn (frameAt recording p)) ≡ b → Falls (actOf p recording rows message)
-  frame-falls rows message fits (cause c) e b test = rw (act-stop recording p fits rows message c e) (stop-falls rows message c)
-  frame-falls rows message fits nothing e true test =
-      let above : p .receiver .due < slotIn (frameAt recording p) = ltb-true (p .receiver .due) (slotIn (frameAt recording p)) test in
-      rw (act-loss recording p fits rows message e above) (loss-falls rows message e above)
-  frame-falls rows message fits nothing e false test =
-      let reached : slotIn (frameAt recording p) ≤ p .receiver .due = ltb-false (p .receiver .due) (slotIn (frameAt recording p)) test in
-      rw (act-heard recording p fits rows message e reached)
-      (heard-falls fits (heardOf (p .receiver) rows (frameAt recording p) message))
-
-  -- by what stands at the offset
-  act-falls : (rows message : List ℕ) → Standing recording (p .offset) (frameLen (p .receiver .settings))
-      → Falls (actOf p recording rows message)
-  act-falls rows message (Standing.ended past is) = rw (act-end recording p rows message past) (end-falls rows message)
-  act-falls rows message (Standing.short before few is) = rw (act-part recording p rows message is) (stop-falls rows message BadLength)
-  act-falls rows message (Standing.whole some fits is) =
-      frame-falls rows message fits (frameStop (p .receiver) (frameAt recording p)) refl
-      (ltb (p .receiver .due) (slotIn (frameAt recording p))) refl
-
 -- every step that leaves more to play leaves fewer steps
 pub fewer : (p : Player) (recording rows message : List ℕ) → actOf p recording rows message .turn ≡ More
     → stepsLeft recording (actOf p recording rows message .player) < stepsLeft recording p
 fewer p recording rows message =
-    act-falls p recording rows message (standing recording (p .offset) (frameLen (p .receiver .settings)))
+    every-act p recording rows message (Falls p recording) (end-falls p recording rows message) (stop-falls p recording rows message)
+    (loss-falls p recording rows message)
+    (λ fits. heard-falls p recording fits (heardOf (p .receiver) rows (frameAt recording p) message))

@@ -42,6 +42,18 @@ startOf recording =
       ]
     ]
 
+pub record Refusal : Type 0 where
+  pub line : List ℕ
+  pub len : ℕ
+
+-- the line of a recording that is refused before any other, over the start of a lent line; without room for its 7 bytes nothing changes
+unfoldable pub refuseOf : Cause → List ℕ → Refusal
+refuseOf c line =
+    elim (ltb (length line) 7) [
+      | true ↦ record { line = line; len = 0 }
+      | false ↦ record { line = written (stopLine c) line; len = length (stopLine c) }
+    ]
+
 pub record Begun : Type 0 where
   pub player : Player
   pub rows : List ℕ

@@ -7,6 +7,7 @@ mod text;
 
 use code::Settings;
 pub use opening::examine;
+pub use opening::refuse;
 use protocol::Cause;
 use protocol::Receiver;
 pub use steps::Stepped;
