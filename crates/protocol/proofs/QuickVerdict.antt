@@ -241,7 +241,7 @@ quick-moved x ok row rows h hs =
     }
 
 -- what a list of reports needs of the state and rows that each one leaves
-abbrev Kept : Reported → Type 0
+abbrev pub Kept : Reported → Type 0
 Kept r = T (accepted (r .receiver .settings)) × T (small (r .rows))
 
 module _ (x : Receiver) (ok : T (accepted (x .settings))) (rows : List ℕ) (hs : T (small rows)) where
@@ -265,7 +265,7 @@ module _ (x : Receiver) (ok : T (accepted (x .settings))) (rows : List ℕ) (hs 
   quick-kept row message h (cause c) = (ok, hs)
 
   -- a report comes to the same, and leaves what the next one needs
-  quick-report : (c : Report) → T (smallFrames (c ∷ []))
+  pub quick-report : (c : Report) → T (smallFrames (c ∷ []))
       → (reportOf x rows c ≡ quickReport x rows c) × Kept (quickReport x rows c)
   unfolding reportOf heardOf lossOf quickReport smallFrames small
   quick-report (heard frame message) h =
