@@ -26,7 +26,7 @@ use Rattle.protocol.specs.Calls.{OpenedReceiver, receivedZeros, openReceiverOf,
 use Rattle.protocol.specs.TwoLists.{Report, heard, missed, reportOf}
 use Rattle.protocol.proofs.QuickVerdict.{quickSymbol, verdictBy, bufferBy, quickReply, quickMoved, quickReport}
 use Rattle.protocol.proofs.QuickVerdict.{small, smallFrames, quick-report}
-use Rattle.player.specs.Text.{decimal, decimalUpTo, stopLine, lineOf}
+use Rattle.lines.specs.Text.{decimal, decimalUpTo, stopLine, lineOf}
 use Rattle.player.specs.Transcript.{settingsIn, recordingCause, Rest, refuses, slotIn, frameStop, andThen, skipped, played}
 use Rattle.player.specs.Transcript.{pieces, playedFrom, transcript}
 

@@ -58,7 +58,7 @@ fn play(recording: &[u8], rows: &mut [u8], message: &mut [u8], out: &mut [u8])
     match player::examine(recording) {
         Start::Empty => {}
         Start::Stop(c) => {
-            let n = player::refuse(c, out);
+            let n = lines::write_stop(c, out);
             put(&out[0..n]);
         }
         Start::Play(s) => {

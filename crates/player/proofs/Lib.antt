@@ -1,9 +1,4 @@
 -- The laws that the functions' proofs cite, and the theorem that the steps print the transcript.
-pub mod Decimals
-pub mod HexDigits
-pub mod TextLaws
-pub mod TextCases
-pub mod WrittenLines
 pub mod StartLaws
 pub mod StopLaws
 pub mod Acts

@@ -7,24 +7,23 @@ use native.Mathlib.Omega.{arith}
 use Prim.Native.Nat.{ℕ, _+_, _*_, _≤_, _<_}
 use lib.Dec.{T, eqb, ltb}
 use lib.ListN.{length, drop, length-append, length-drop}
-use borrow.Author.Tests.{ltb-true, ltb-false}
+use borrow.Author.Tests.{ltb-true}
 use Rattle.code.specs.declared.settings.Settings.{Settings}
 use Rattle.code.specs.Settings.{accepted, delayOf, kOf, nOf}
 use Rattle.code.proofs.Shape.{Shape, shape}
 use Rattle.protocol.specs.declared.Receiver.{Receiver}
-use Rattle.protocol.specs.declared.Cause.{Cause}
 use Rattle.protocol.specs.Lengths.{messageLen, bodyLen, rowLen, rowCount, receiverLen}
 use Rattle.protocol.specs.Causes.{Found, nothing, cause}
 use Rattle.protocol.specs.Calls.{Reported}
+use Rattle.lines.specs.Text.{written}
+use Rattle.lines.specs.Lent.{longest}
 use Rattle.player.specs.declared.Player.{Player}
 use Rattle.player.specs.declared.Start.{Start}
 use Rattle.player.specs.declared.Start.the-variants.{Empty, Stop, Play}
 use Rattle.player.specs.declared.Turn.{Turn}
 use Rattle.player.specs.declared.Turn.the-variants.{NoRoom, More, Over}
-use Rattle.player.specs.Text.{written}
 use Rattle.player.specs.Transcript.{settingsIn, recordingCause, refuses}
-use Rattle.player.specs.Steps.{startOf, refuseOf, Act, endAct, stopAct, turnOf, reportAct, actOf, longest, onLine, stepOf}
-use Rattle.player.proofs.TextLaws.{stop-length}
+use Rattle.player.specs.Steps.{startOf, Act, endAct, stopAct, turnOf, reportAct, actOf, onLine, stepOf}
 use Rattle.player.proofs.Acts.{every-act}
 use Rattle.player.proofs.Played.{passed}
 use Rattle.player.proofs.StepsLeft.{stepsLeft, fewer}
@@ -95,16 +94,6 @@ module _ (p : Player) (recording rows message line : List ℕ) where
           let text : List ℕ = actOf p recording rows message .text in
           let same : length (text ++ drop (length text) line) ≡ length line = rw (is, stepOf) at e in
           rw (is, stepOf) (omega (arith, length-append text (drop (length text) line)))
-
--- ---- a recording that is refused
-
-pub refuse-fits : (c : Cause) (line : List ℕ) → refuseOf c line .len ≤ length line
-unfolding refuseOf
-refuse-fits c line = go (ltb (length line) 7) refl
-  where
-    go : (b : Bool) → ltb (length line) 7 ≡ b → refuseOf c line .len ≤ length line
-    go true is = rw (is, refuseOf) (omega arith)
-    go false is = rw (is, refuseOf) (omega (arith, stop-length c, ltb-false (length line) 7 is))
 
 -- ---- a recording that is played
 

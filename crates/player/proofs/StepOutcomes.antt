@@ -16,10 +16,11 @@ use Rattle.protocol.specs.Causes.{Found, nothing, cause}
 use Rattle.protocol.specs.Calls.{Reported, messageDue, lossOf, heardOf}
 use Rattle.recording.specs.declared.Found.the-variants.{Frame, Part, End}
 use Rattle.recording.specs.Found.{foundAt}
+use Rattle.lines.specs.Text.{stopLine, lineOf, written}
+use Rattle.lines.specs.Lent.{longest}
 use Rattle.player.specs.declared.Player.{Player}
 use Rattle.player.specs.declared.Turn.{Turn}
 use Rattle.player.specs.declared.Turn.the-variants.{NoRoom, Over}
-use Rattle.player.specs.Text.{stopLine, lineOf, written}
 use Rattle.player.specs.Transcript.{slotIn, frameStop}
 use Rattle.player.specs.Steps.{
   answerOf,
@@ -30,7 +31,6 @@ use Rattle.player.specs.Steps.{
   reportAct,
   frameAct,
   actOf,
-  longest,
   Stepped,
   onLine,
   stepOf,

@@ -1,4 +1,3 @@
-pub mod Text
 pub mod Transcript
 pub mod Steps
 pub mod Printed

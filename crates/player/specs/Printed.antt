@@ -6,10 +6,10 @@ use lib.ListN.{length}
 use Rattle.code.specs.declared.settings.Settings.{Settings}
 use Rattle.protocol.specs.declared.Cause.{Cause}
 use Rattle.protocol.specs.Lengths.{messageLen, receiverLen}
+use Rattle.lines.specs.Text.{stopLine}
 use Rattle.player.specs.declared.Player.{Player}
 use Rattle.player.specs.declared.Start.the-variants.{Empty, Stop, Play}
 use Rattle.player.specs.declared.Turn.the-variants.{More, Over}
-use Rattle.player.specs.Text.{stopLine}
 use Rattle.player.specs.Transcript.{transcript}
 use Rattle.player.specs.Steps.{startOf, beginOf, actOf}
 

@@ -1,7 +1,7 @@
 -- Playing in steps: how a recording starts, and one step as a function of the player and every lent list.
 use mathlib.Core.Bool.{true, false}
 use mathlib.Core.List.{List, []}
-use Prim.Native.Nat.{ℕ, _+_, _-_, _*_}
+use Prim.Native.Nat.{ℕ, _-_}
 use lib.Dec.{eqb, ltb}
 use lib.ListN.{length, take, drop, replicate}
 use Rattle.code.specs.declared.settings.Settings.{Settings}
@@ -16,12 +16,13 @@ use Rattle.protocol.specs.Causes.{Found, nothing, cause}
 use Rattle.protocol.specs.Calls.{openReceiverOf, Reported, messageDue, lossOf, heardOf}
 use Rattle.recording.specs.declared.Found.the-variants.{Frame, Part, End}
 use Rattle.recording.specs.Found.{foundAt}
+use Rattle.lines.specs.Text.{stopLine, lineOf, written}
+use Rattle.lines.specs.Lent.{longest}
 use Rattle.player.specs.declared.Player.{Player}
 use Rattle.player.specs.declared.Start.{Start}
 use Rattle.player.specs.declared.Start.the-variants.{Empty, Stop, Play}
 use Rattle.player.specs.declared.Turn.{Turn}
 use Rattle.player.specs.declared.Turn.the-variants.{NoRoom, More, Over}
-use Rattle.player.specs.Text.{stopLine, lineOf, written}
 use Rattle.player.specs.Transcript.{settingsIn, recordingCause, slotIn, frameStop, refuses}
 
 -- the first cause that holds, as an answer
@@ -40,18 +41,6 @@ startOf recording =
         | cause c ↦ Stop c
         | nothing ↦ Play (settingsIn recording)
       ]
-    ]
-
-pub record Refusal : Type 0 where
-  pub line : List ℕ
-  pub len : ℕ
-
--- the line of a recording that is refused before any other, over the start of a lent line; without room for its 7 bytes nothing changes
-unfoldable pub refuseOf : Cause → List ℕ → Refusal
-refuseOf c line =
-    elim (ltb (length line) 7) [
-      | true ↦ record { line = line; len = 0 }
-      | false ↦ record { line = written (stopLine c) line; len = length (stopLine c) }
     ]
 
 pub record Begun : Type 0 where
@@ -121,10 +110,6 @@ actOf p recording rows message =
       | Part ↦ stopAct p rows message BadLength
       | Frame start end ↦ frameAct p (take (end - start) (drop start recording)) end rows message
     ]
-
--- what the longest line takes: ten digits, ` whole `, the message in hex, and the line's end
-unfoldable pub longest : List ℕ → ℕ
-longest message = 18 + 2 * length message
 
 pub record Stepped : Type 0 where
   pub player : Player

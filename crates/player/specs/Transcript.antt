@@ -8,13 +8,13 @@ use Rattle.code.specs.declared.settings.Settings.{Settings}
 use Rattle.code.specs.Settings.{accepted}
 use Rattle.protocol.specs.declared.Receiver.{Receiver}
 use Rattle.protocol.specs.declared.Reply.{Reply}
-use Rattle.protocol.specs.declared.Reply.the-variants.{Refused, NoneYet, Whole, Lost, Clash}
 use Rattle.protocol.specs.declared.Cause.the-variants.{BadSettings, BadLength, OtherMark, OtherSettings, OtherSlot}
 use Rattle.protocol.specs.Lengths.{messageLen, frameLen, receiverLen}
 use Rattle.protocol.specs.Frame.{mark, five}
 use Rattle.protocol.specs.Causes.{Found, nothing, cause, check, agree}
+use Rattle.protocol.specs.Claim.{accepts}
 use Rattle.protocol.specs.Calls.{OpenedReceiver, openReceiverOf, Reported, messageDue, lossOf, heardOf}
-use Rattle.player.specs.Text.{stopLine, lineOf}
+use Rattle.lines.specs.Text.{stopLine, lineOf}
 
 -- ---- before any line
 
@@ -65,11 +65,7 @@ Rest = Receiver → List ℕ → List ℕ → List ℕ
 
 -- whether a report was refused
 abbrev pub refuses : Reply → Bool
-refuses (Refused c) = true
-refuses NoneYet = false
-refuses Whole = false
-refuses Lost = false
-refuses Clash = false
+refuses r = not (accepts r)
 
 -- a report of the slot due: its line, and what comes after it; at a refusal the line of `stop`, and the end
 unfoldable pub andThen : Receiver → Reported → Rest → List ℕ

@@ -3,11 +3,9 @@
 mod frame;
 mod opening;
 mod steps;
-mod text;
 
 use code::Settings;
 pub use opening::examine;
-pub use opening::refuse;
 use protocol::Cause;
 use protocol::Receiver;
 pub use steps::Stepped;

@@ -1,6 +1,5 @@
 // How a recording starts: the tests before any line.
 use crate::Start;
-use crate::text::write_stop;
 use code::Settings;
 use protocol::Cause;
 use protocol::frame_len;
@@ -8,7 +7,7 @@ ghost use mathlib.Core.Path.{_≡_};
 ghost use Prim.Native.Nat.{_≤_};
 ghost use lib.ListN.{length};
 ghost use Rattle.player.specs.Transcript.{settingsIn};
-ghost use Rattle.player.specs.Steps.{startOf, refuseOf};
+ghost use Rattle.player.specs.Steps.{startOf};
 
 // The most that a recording may have: 64 KiB.
 const LONGEST: usize = 65536;
@@ -48,14 +47,4 @@ pub fn examine(recording: &[u8]) -> Start
         return Start::Stop(Cause::BadLength);
     }
     Start::Play(s)
-}
-
-// The line of a recording that is refused before any other, and how long it is: 0 where the lent line has no room for it.
-pub fn refuse(c: Cause, line: &mut [u8]) -> usize
-    ensures { λ r. ⌜ record { line = now (line .exit); len = r } ≡ refuseOf c (now (line .entry)) ⌝ }
-{
-    if line.len() < 7 {
-        return 0;
-    }
-    write_stop(c, line)
 }

@@ -3,9 +3,10 @@ use crate::Player;
 use crate::Turn;
 use crate::frame::slot_of;
 use crate::frame::stop_of;
-use crate::text::write_line;
-use crate::text::write_stop;
 use code::Settings;
+use lines::has_room;
+use lines::write_line;
+use lines::write_stop;
 use protocol::Answer;
 use protocol::Cause;
 use protocol::Receiver;
@@ -18,10 +19,9 @@ use recording::next_frame;
 use terminal::report_kept;
 ghost use mathlib.Core.Path.{_≡_};
 ghost use Prim.Native.Nat.{_+_, _*_, _≤_};
-ghost use lib.Dec.{leb};
 ghost use lib.ListN.{length};
 ghost use Rattle.protocol.specs.Calls.{messageDue};
-ghost use Rattle.player.specs.Text.{stopLine, lineOf, written};
+ghost use Rattle.lines.specs.Text.{stopLine, lineOf, written};
 ghost use Rattle.player.specs.Steps.{beginOf, turnOf, frameAct, onLine, stepOf};
 
 // What a step gives back; `len` is how much of the lent line it has written.
@@ -54,19 +54,6 @@ fn about(x: Receiver) -> u32
         return 0;
     }
     x.due - delay
-}
-
-// Whether a line has room for the longest that this message buffer can give.
-fn has_room(line: usize, message: usize) -> bool
-    ensures { λ r. ⌜ r ≡ leb (18 + 2 * message) line ⌝ }
-{
-    if line < 18 {
-        return false;
-    }
-    if (line - 18) / 2 < message {
-        return false;
-    }
-    true
 }
 
 // A refused report is the last.

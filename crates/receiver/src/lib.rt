@@ -1,6 +1,5 @@
 // The receiver: its opening, and the reports of losses and of frames. Each call takes any input at all, and a refused call changes
 // nothing.
-mod decision;
 mod frame_report;
 mod loss_report;
 mod opening;

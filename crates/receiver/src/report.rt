@@ -1,5 +1,4 @@
 // What the reports of losses and of frames share.
-use crate::decision::decide;
 use code::Settings;
 use protocol::Cause;
 use protocol::Receiver;
@@ -37,11 +36,10 @@ pub(crate) fn told(s: Settings, due: u32, rows: &[u8], message: &mut [u8]) -> Re
     requires { ⌜ T (accepted s) × (due ≤ lastSlot) × (length (now rows) ≡ receiverLen s) × (length (now message) ≡ messageLen s) ⌝ }
     ensures { λ r. ⌜ (r ≡ cond (ltb due (delayOf s)) reply.NoneYet (verdict s (now (rows .entry)) (due + 1) (messageDue s due))) × (now (message .exit) ≡ bufferOf s (now (rows .entry)) (due + 1) (messageDue s due) r) ⌝ }
 {
-    let slot = due as usize;
-    let delay = s.effective_delay() as usize;
-    if slot < delay {
+    let delay = s.effective_delay() as u32;
+    if due < delay {
         clear(message);
         return Reply::NoneYet;
     }
-    decide(s, rows, slot + 1, slot - delay, message)
+    decision::decide(s, rows, due + 1, due - delay, message)
 }

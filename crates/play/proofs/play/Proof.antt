@@ -6,8 +6,9 @@ use denote.Ref.{now}
 use lib.Dec.{T}
 use lib.ListN.{length-take}
 use Rattle.code.specs.Settings.{accepted}
-use Rattle.player.specs.Steps.{Refusal}
-use Rattle.player.proofs.LoopLaws.{refuse-fits, play-accepted, rows-few, message-few}
+use Rattle.lines.specs.Lent.{Line}
+use Rattle.lines.proofs.LentLines.{stop-fits}
+use Rattle.player.proofs.LoopLaws.{play-accepted, rows-few, message-few}
 use Rattle.play.proofs.play.Statement.{statement}
 use Rattle.play.proofs.play.Tie as tie
 
@@ -16,7 +17,7 @@ part-put-end c =
     let refused = c .before .before .before in
     let why = refused .before .before .before .c .given .0 .0 in
     let a = refused .before .before .before .before .before .before .before .before .before .before .args in
-    omega (arith, refuse-fits why (now (a .out)), ap (λ (r : Refusal). r .len) (refused .refuse .ensures))
+    omega (arith, stop-fits why (now (a .out)), ap (λ (r : Line). r .len) (refused .write-stop .ensures))
 
 -- the settings that are played are accepted
 ok : (c : tie.After-s) → T (accepted (c .s .given .0 .0))

@@ -6,8 +6,9 @@ use native.Mathlib.Omega.{arith}
 use Prim.Native.Nat.{ℕ, _+_, _-_, _*_, _≤_, _<_, zero-le, min}
 use denote.Ref.{now}
 use lib.ListN.{length, take, drop, length-take, length-drop}
+use Rattle.lines.specs.Lent.{longest}
 use Rattle.player.specs.declared.Turn.the-variants.{NoRoom, More, Over}
-use Rattle.player.specs.Steps.{Stepped, stepOf, longest}
+use Rattle.player.specs.Steps.{Stepped, stepOf}
 use Rattle.player.proofs.LoopLaws.{step-no-room, step-fewer, step-fits}
 use Rattle.player.proofs.StepsLeft.{stepsLeft}
 use Rattle.play.proofs.play_steps.Statement.{statement}

@@ -12,8 +12,8 @@ use Rattle.protocol.specs.Lengths.{frameLen}
 use Rattle.protocol.specs.declared.Cause.the-variants.{BadLength}
 use Rattle.recording.specs.Found.{foundAt}
 use Rattle.recording.proofs.FoundLaws.{frame-says}
-use Rattle.player.specs.Text.{written}
-use Rattle.player.specs.Steps.{Act, endAct, actOf, longest, onLine}
+use Rattle.lines.specs.Lent.{longest}
+use Rattle.player.specs.Steps.{Act, endAct, actOf, onLine}
 use Rattle.player.proofs.StepOutcomes.{ends, parts, stands, no-room, room, stop-line, end-line}
 use Rattle.player.proofs.steps.step.Statement.{statement}
 use Rattle.player.proofs.steps.step.Tie as tie

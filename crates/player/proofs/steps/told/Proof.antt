@@ -1,19 +1,24 @@
--- The line is that of the report.
+-- There is room, so the line is that of the report.
 use borrow.Author.Needs.{needs}
-use mathlib.Core.Path.{_≡_, refl, ap, _∙_}
-use mathlib.Core.List.{List}
+use mathlib.Core.Path.{refl, ap, _∙_}
 use Prim.Native.Nat.{ℕ}
 use denote.Ref.{now}
 use lib.ListN.{length}
-use Rattle.player.specs.Text.{lineOf, written}
+use Rattle.lines.specs.Text.{lineOf, written}
+use Rattle.lines.specs.Lent.{longest}
+use Rattle.lines.proofs.LentLines.{line-parts}
 use Rattle.player.proofs.steps.told.Statement.{statement}
 use Rattle.player.proofs.steps.told.Tie as tie
 
 returns : tie.Need-returns
+unfolding longest
 returns c =
-    let a = c .before .before .before .before .before .before .before .before .before .args in
-    let wrote = c .before .before .before .write-line .ensures in
-    let same = c .before .before .before .before .before .about .ensures in (
+    let start = c .before .before .before .before .before .before .before .before .before in
+    let a = start .args in
+    let called = c .before .before .before in
+    let number = called .before .before .about in
+    let same = number .ensures in
+    let wrote = line-parts (number .result) (a .r .reply) (now (a .message)) (now (a .line)) _ _ (called .write-line .ensures) (start .pre) in (
       refl,
       c .turn-of .ensures,
       wrote .0 ∙ ap (λ (t : ℕ). length (lineOf t (a .r .reply) (now (a .message)))) same,

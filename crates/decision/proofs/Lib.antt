@@ -1,0 +1,6 @@
+-- The laws that the functions' proofs cite, and those of the call for its callers.
+pub mod Places
+pub mod SameValues
+pub mod Marks
+pub mod LaneSaid
+pub mod CallOutcomes

@@ -1,0 +1,65 @@
+-- What a writer leaves of a lent line, by whether there is room.
+use mathlib.Core.Path.{_≡_, refl, sym, ap, _∙_}
+use mathlib.Core.Bool.{Bool, true, false}
+use mathlib.Core.List.{List}
+use native.Mathlib.Omega.{arith}
+use Prim.Native.Nat.{ℕ, _≤_, _<_}
+use lib.Dec.{ltb}
+use lib.ListN.{length}
+use borrow.Author.Tests.{lt-ltb, le-ltb, ltb-false}
+use Rattle.protocol.specs.declared.Cause.{Cause}
+use Rattle.protocol.specs.declared.Reply.{Reply}
+use Rattle.lines.specs.Text.{stopLine, lineOf, written}
+use Rattle.lines.specs.Lent.{longest, Line, lineOn, stopOn}
+use Rattle.lines.proofs.TextLaws.{stop-length}
+
+-- ---- the line of a report
+
+module _ (about : ℕ) (reply : Reply) (message line : List ℕ) where
+  -- without room it stays as it was
+  pub line-stays : length line < longest message → record { line = line; len = 0 } ≡ lineOn about reply message line
+  unfolding lineOn
+  line-stays h = rw (lt-ltb (length line) (longest message) h, lineOn)
+
+  -- with room the text is written
+  pub line-lent : longest message ≤ length line
+      → record { line = written (lineOf about reply message) line; len = length (lineOf about reply message) }
+      ≡ lineOn about reply message line
+  unfolding lineOn
+  line-lent h = rw (le-ltb (length line) (longest message) h, lineOn)
+
+  -- so these are the parts of what is given back
+  pub line-parts : (now : List ℕ) (len : ℕ) → record { line = now; len = len } ≡ lineOn about reply message line → longest message ≤ length line
+      → (len ≡ length (lineOf about reply message)) × (now ≡ written (lineOf about reply message) line)
+  line-parts now len e h =
+      let lent = e ∙ sym (line-lent h) in
+      (ap (λ (l : Line). l .len) lent, ap (λ (l : Line). l .line) lent)
+
+-- ---- the line of a refusal
+
+module _ (c : Cause) (line : List ℕ) where
+  -- without room it stays as it was
+  pub stop-stays : length line < 7 → record { line = line; len = 0 } ≡ stopOn c line
+  unfolding stopOn
+  stop-stays h = rw (lt-ltb (length line) 7 h, stopOn)
+
+  -- with room the text is written
+  pub stop-lent : 7 ≤ length line → record { line = written (stopLine c) line; len = length (stopLine c) } ≡ stopOn c line
+  unfolding stopOn
+  stop-lent h = rw (le-ltb (length line) 7 h, stopOn)
+
+  -- so these are the parts of what is given back
+  pub stop-parts : (now : List ℕ) (len : ℕ) → record { line = now; len = len } ≡ stopOn c line → 7 ≤ length line
+      → (len ≡ length (stopLine c)) × (now ≡ written (stopLine c) line)
+  stop-parts now len e h =
+      let lent = e ∙ sym (stop-lent h) in
+      (ap (λ (l : Line). l .len) lent, ap (λ (l : Line). l .line) lent)
+
+  -- what is written fits
+  pub stop-fits : stopOn c line .len ≤ length line
+  unfolding stopOn
+  stop-fits = go (ltb (length line) 7) refl
+    where
+      go : (b : Bool) → ltb (length line) 7 ≡ b → stopOn c line .len ≤ length line
+      go true is = rw (is, stopOn) (omega arith)
+      go false is = rw (is, stopOn) (omega (arith, stop-length c, ltb-false (length line) 7 is))

@@ -1,0 +1,3 @@
+-- The lines, and what is left of a lent line by a writer.
+pub mod Text
+pub mod Lent

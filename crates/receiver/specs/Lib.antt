@@ -1,2 +1,0 @@
--- What the receiver's functions say.
-pub mod Decision
