@@ -8,3 +8,5 @@ pub mod ByteField
 pub mod Extension
 pub mod Sums
 pub mod Counting
+pub mod ByIndex
+pub mod ArrayBytes

@@ -1,16 +1,16 @@
 -- The narrow numbers are a field. Each law is computed, over all of its cases.
-use mathlib.Core.Path.{_≡_, sym, _∙_, subst⁻¹}
+use mathlib.Core.Path.{_≡_, sym, ap, ap₂, _∙_, subst⁻¹}
 use mathlib.Core.Bool.{Bool, cond, not, and-false}
 use mathlib.Core.Logic.{_≢_}
-use mathlib.Core.List.{List, []}
-use Prim.Native.Nat.{ℕ, zero, suc, _<_}
+use Prim.Native.Nat.{ℕ, zero, suc, _*_, _/_, _%_, _<_}
+use lib.Bits.{bitXor}
 use lib.Dec.{T, T-not, eqb, ltb, eqb→eq, ltb→lt, lit<}
 use lib.ListN.{getD, List·getD-eq-default}
 use borrow.Author.Tests.{lt-ltb, le-ltb}
 use Rattle.galois.specs.Bounded.{every}
 use Rattle.galois.specs.Byte.{_⊕_, eight}
 use Rattle.galois.specs.Narrow.{narrow, _⊞_, timesZ, timesBits, _⊠_, narrowReciprocals, narrowReciprocal}
-use Rattle.galois.proofs.Cases.{at, equal, equal₂, equal₃, equal-but-zero, where-passed}
+use Rattle.galois.proofs.Cases.{at, equal, equal₂, equal₃, equal-but-zero}
 use Rattle.galois.proofs.Field.{Field}
 
 below₂ : (f : ℕ → ℕ → ℕ) → T (every 16 (λ a. every 16 (λ b. ltb (f a b) 16)))
@@ -72,29 +72,28 @@ pub reciprocal-above : (a : ℕ) → 15 < a → narrowReciprocal a ≡ 0
 unfolding narrowReciprocal narrowReciprocals
 reciprocal-above a h = List·getD-eq-default narrowReciprocals 0 h
 
--- ---- a table of products
+-- ---- the product as the code has it
 
--- the entry y is the product of a and b
-unfoldable pub multiplies : ℕ → ℕ → ℕ → Bool
-multiplies zero b y = eqb y 0
-multiplies (suc a) b y = eqb y (timesBits 4 (suc a) b)
+-- a times each power of z that b has, added
+shifts : ℕ → ℕ → ℕ
+shifts a b = bitXor (bitXor (bitXor (a * (b % 2)) (a * 2 * (b / 2 % 2))) (a * 4 * (b / 4 % 2))) (a * 8 * (b / 8 % 2))
 
-entry-product : (a b y : ℕ) → a < 16 → b < 16 → T (multiplies a b y) → y ≡ a ⊠ b
-unfolding multiplies _⊠_
-entry-product zero b y ha hb t = eqb→eq y 0 t ∙ sym (narrows .zero-times b hb)
-entry-product (suc a) b y ha hb t =
-    eqb→eq y (timesBits 4 (suc a) b) t ∙ sym (both-narrow (suc a) b (timesBits 4 (suc a) b) ha hb)
+-- z^4, z^5 and z^6 replaced by what they are modulo z^4 + z + 1
+reduced : ℕ → ℕ
+reduced p = bitXor (bitXor (bitXor p (19 * (p / 16 % 2))) (38 * (p / 32 % 2))) (76 * (p / 64 % 2))
 
--- every entry of the table is the product of its row and its place
-unfoldable pub multiplicationTable : List (List ℕ) → Bool
-multiplicationTable t = every 16 (λ a. every 16 (λ b. multiplies a b (getD (getD t a []) b 0)))
+reduced-shifts : (a b : ℕ) → a < 16 → b < 16 → reduced (shifts a b) ≡ a ⊠ b
+unfolding every reduced shifts _⊠_ narrow timesBits timesZ
+reduced-shifts = equal₂ 16 (λ a b. reduced (shifts a b)) _⊠_ tt
 
--- the rule of the table: where that one test over it passes, an entry is the product
-pub table-product : (a b : ℕ) → a < 16 → b < 16 → (t : List (List ℕ))
-    → getD (getD t a []) b 0 ≡ cond (multiplicationTable t) (a ⊠ b) (getD (getD t a []) b 0)
-unfolding multiplicationTable
-table-product a b ha hb t =
-    where-passed (multiplicationTable t) (getD (getD t a []) b 0) (a ⊠ b)
-    (λ rule. entry-product a b (getD (getD t a []) b 0) ha hb
-    (at 16 (λ b. multiplies a b (getD (getD t a []) b 0))
-    (at 16 (λ a. every 16 (λ b. multiplies a b (getD (getD t a []) b 0))) rule a ha) b hb))
+-- the four shifted terms and the three replaced powers make the product
+pub shifts-product : (a b s₀ s₁ s₂ s₃ r₀ r₁ r₂ : ℕ) → a < 16 → b < 16
+    → s₀ ≡ a * (b % 2) → s₁ ≡ a * 2 * (b / 2 % 2) → s₂ ≡ a * 4 * (b / 4 % 2) → s₃ ≡ a * 8 * (b / 8 % 2)
+    → let p : ℕ = bitXor (bitXor (bitXor s₀ s₁) s₂) s₃ in
+    r₀ ≡ 19 * (p / 16 % 2) → r₁ ≡ 38 * (p / 32 % 2) → r₂ ≡ 76 * (p / 64 % 2)
+    → bitXor (bitXor (bitXor p r₀) r₁) r₂ ≡ a ⊠ b
+unfolding reduced shifts
+shifts-product a b s₀ s₁ s₂ s₃ r₀ r₁ r₂ ha hb e₀ e₁ e₂ e₃ f₀ f₁ f₂ =
+    let p : ℕ = bitXor (bitXor (bitXor s₀ s₁) s₂) s₃ in
+    ap₂ bitXor (ap₂ bitXor (ap (bitXor p) f₀) f₁) f₂
+    ∙ ap reduced (ap₂ bitXor (ap₂ bitXor (ap₂ bitXor e₀ e₁) e₂) e₃) ∙ reduced-shifts a b ha hb

@@ -1,7 +1,7 @@
 -- Exclusive or at any width: its laws, the functions that are additive in it, and what makes two of those equal.
-use mathlib.Core.Path.{_≡_, refl, sym, ap, ap₂, _∙_, subst}
+use mathlib.Core.Path.{_≡_, refl, sym, ap, ap₂, _∙_, subst, subst⁻¹}
 use Prim.Native.Nat.{ℕ, zero, suc, _+_, _*_, _/_, _%_, _^_, _<_}
-use native.Mathlib.Nat.{mod-lt, one-mul, zero-mul, zero-lt-suc, le-step, lt-suc-self}
+use native.Mathlib.Nat.{mod-lt, one-mul, zero-mul, mul-one, mul-zero, zero-lt-suc, le-step, lt-suc-self}
 use native.Mathlib.Numerals.{one-add}
 use native.Mathlib.Omega.{arith}
 use lib.Arith.{bin-ind, digits-mod, lt-one}
@@ -79,6 +79,12 @@ pub plus-cancel : (x y : ℕ) → x ⊕ y ≡ 0 → x ≡ y
 plus-cancel x y e =
     sym (plus-zero x) ∙ ap (λ (s : ℕ). x ⊕ s) (sym (plus-self y)) ∙ sym (plus-assoc x y y) ∙ ap (λ (s : ℕ). s ⊕ y) e
     ∙ zero-plus y
+
+-- a number by a bit is below what the number is below
+pub by-bit : (m y q : ℕ) → y < m → q < 2 → y * q < m
+by-bit m y zero hy hq = omega (arith, mul-zero y)
+by-bit m y (suc zero) hy hq = subst⁻¹ (λ (z : ℕ). z < m) (mul-one y) hy
+by-bit m y (suc (suc q)) hy hq = omega arith
 
 -- ---- additive functions
 

@@ -3,3 +3,4 @@ pub mod Bounded
 pub mod Narrow
 pub mod Byte
 pub mod Sum
+pub mod Table

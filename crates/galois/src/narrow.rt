@@ -1,8 +1,8 @@
 // The field of sixteen elements: a number 0 to 15 is a polynomial over two elements, modulo z^4 + z + 1.
 use crate::byte::Gf256;
-use crate::tables::NARROW_PRODUCTS;
 use crate::tables::NARROW_RECIPROCALS;
 ghost use mathlib.Core.Path.{_≡_};
+ghost use Prim.Native.Nat.{_*_, _%_};
 ghost use Rattle.galois.specs.Byte.{widen};
 ghost use Rattle.galois.specs.Narrow.{_⊞_, _⊠_, narrowReciprocal, narrowQuotient};
 
@@ -27,18 +27,23 @@ impl Gf16 {
         Gf16(a ^ b)
     }
 
+    // The polynomials' product, with z^4, z^5 and z^6 replaced by what they are modulo z^4 + z + 1.
     pub fn product(self, other: Gf16) -> Gf16
         ensures { λ r. ⌜ r .0 ≡ self .0 ⊠ other .0 ⌝ }
     {
-        let row = self.0;
-        let place = other.0;
-        if 15 < row {
+        let x = self.0;
+        let y = other.0;
+        if 15 < x {
             return Gf16(0);
         }
-        if 15 < place {
+        if 15 < y {
             return Gf16(0);
         }
-        Gf16(NARROW_PRODUCTS[row as usize][place as usize])
+        let sum = where_odd(x, y)
+            ^ where_odd(x * 2, y / 2)
+            ^ where_odd(x * 4, y / 4)
+            ^ where_odd(x * 8, y / 8);
+        Gf16(sum ^ where_odd(19, sum / 16) ^ where_odd(38, sum / 32) ^ where_odd(76, sum / 64))
     }
 
     pub fn reciprocal(self) -> Gf16
@@ -67,4 +72,11 @@ impl Gf16 {
         }
         Gf256(number)
     }
+}
+
+// The number where the other is odd, else 0.
+fn where_odd(number: u8, other: u8) -> u8
+    ensures { λ r. ⌜ r ≡ number * (other % 2) ⌝ }
+{
+    number * (other % 2)
 }

@@ -1,11 +1,9 @@
--- `product` is an entry of the table, whose rule is one test over the whole table, and 0 where a number is above 15.
+-- `product` adds the shifted terms and replaces the powers from z^4 on, and is 0 where a number is above 15.
 use borrow.Author.Needs.{needs}
 use native.Mathlib.Omega.{arith}
-use mathlib.Core.Path.{refl}
 use Prim.Native.Nat.{_<_}
-use Rattle.galois.specs.Bounded.{every}
-use Rattle.galois.specs.Narrow.{timesZ, timesBits, _⊠_}
-use Rattle.galois.proofs.NarrowField.{above-left, above-right, multiplies, multiplicationTable, table-product}
+use Rattle.galois.specs.Narrow.{_⊠_}
+use Rattle.galois.proofs.NarrowField.{above-left, above-right, shifts-product}
 use Rattle.galois.proofs.narrow.Gf16.product.Statement.{statement}
 use Rattle.galois.proofs.narrow.Gf16.product.Tie as tie
 
@@ -23,10 +21,31 @@ returns-2 c =
     rw above-right
 
 returns-3 : tie.Need-returns-3
-unfolding multiplicationTable every multiplies timesBits timesZ
 returns-3 c =
-    let a = c .before .before .before .args in
-    rw (table-product (a .self .0) (a .other .0) (omega arith) (omega arith)) refl
+    let a = c .before .before .before .before .before .before .before .before .before .args in
+    shifts-product (a .self .0) (a .other .0) _ _ _ _ _ _ _ (omega arith) (omega arith)
+    (c .before .before .before .before .before .before .where-odd .ensures)
+    (c .before .before .before .before .before .where-odd2 .ensures)
+    (c .before .before .before .before .where-odd3 .ensures)
+    (c .before .before .before .where-odd4 .ensures)
+    (c .before .before .where-odd5 .ensures)
+    (c .before .where-odd6 .ensures)
+    (c .where-odd7 .ensures)
 
 pub product-spec : {M : Type 1} → statement M
-product-spec = tie.close (tie.spec returns returns-2 (λ c. search needs) (λ c. search needs) (λ c. search needs) (λ c. search needs) (λ c. search needs) returns-3)
+product-spec =
+    tie.close
+    (tie.spec
+    returns
+    returns-2
+    (λ c κs. search needs)
+    (λ c. search needs)
+    (λ c κs. search needs)
+    (λ c. search needs)
+    (λ c κs. search needs)
+    (λ c. search needs)
+    (λ c κs. search needs)
+    (λ c κs. search needs)
+    (λ c κs. search needs)
+    (λ c κs. search needs)
+    returns-3)

@@ -1,0 +1,2 @@
+-- What the contracts of the multiples cite.
+pub mod Columns
