@@ -19,9 +19,9 @@ use Rattle.code.specs.declared.settings.Settings.{Settings}
 use Rattle.code.specs.Settings.{accepted, kOf}
 use Rattle.code.specs.Matrix.{entry, generatorOf}
 use Rattle.code.specs.Word.{wordAt, multipliers, symbol, unit, systematicOf}
-use Rattle.code.specs.Table.{table}
+use Rattle.galois.specs.Table.{table}
 use Rattle.code.proofs.Shape.{Shape}
-use Rattle.code.proofs.Tables.{getD-table, table-equal}
+use Rattle.galois.proofs.ByIndex.{getD-table, table-equal}
 use Rattle.code.proofs.Entries.{entry-below, entry-zero-low, entry-one}
 use Rattle.code.proofs.Words.{wordAt-plus, wordAt-times, wordAt-zeros, word-equal, zero-multipliers}
 use Rattle.code.proofs.Symbols.{multiplier-below, symbol-source}

@@ -1,8 +1,8 @@
 -- The laws that the crates above cite.
-pub mod Tables
 pub mod Shape
 pub mod Products
 pub mod Rows
+pub mod Spans
 pub mod Entries
 pub mod Words
 pub mod Symbols

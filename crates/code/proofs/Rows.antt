@@ -32,6 +32,11 @@ pub times-narrow : (a b : ℕ) → a ⊠ b < 16
 unfolding _⊠_
 times-narrow a b = guarded (λ r. r < 16) a b (timesBits 4 a b) (lit< tt) (narrows .times-below a b)
 
+-- and so is a sum
+pub plus-narrow : (a b : ℕ) → a ⊞ b < 16
+unfolding _⊞_
+plus-narrow a b = guarded (λ r. r < 16) a b _ (lit< tt) (narrows .plus-below a b)
+
 -- a number and itself add to 0
 plus-itself : (a : ℕ) → a ⊞ a ≡ 0
 unfolding _⊞_

@@ -7,7 +7,7 @@ use Rattle.galois.specs.Narrow.{_⊞_, _⊠_, narrowQuotient}
 use Rattle.galois.specs.Byte.{alpha, widen}
 use Rattle.code.specs.declared.settings.Settings.{Settings}
 use Rattle.code.specs.Settings.{delayOf, kOf, nOf, dOf}
-use Rattle.code.specs.Table.{table}
+use Rattle.galois.specs.Table.{table}
 
 -- the zero points of row i in order: 0 to i - 1, then i + N onward
 unfoldable pub point : ℕ → ℕ → ℕ → ℕ

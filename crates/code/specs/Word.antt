@@ -9,7 +9,7 @@ use Rattle.galois.specs.Sum.{sum}
 use Rattle.code.specs.declared.settings.Settings.{Settings}
 use Rattle.code.specs.Settings.{accepted, kOf}
 use Rattle.code.specs.Matrix.{entry}
-use Rattle.code.specs.Table.{table}
+use Rattle.galois.specs.Table.{table}
 
 -- the word of the multipliers u, a sum of byte multiples of G's rows, at position p
 unfoldable pub wordAt : Settings → (ℕ → ℕ) → ℕ → ℕ

@@ -2,6 +2,7 @@
 mod encoder;
 mod matrix;
 mod settings;
+mod tables;
 
 pub use encoder::systematic;
 pub use matrix::entry;

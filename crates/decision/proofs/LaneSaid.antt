@@ -1,48 +1,83 @@
 -- What elimination says of the flags and bytes that were read out of the rows is what the fitting words say.
-use mathlib.Core.Path.{_≡_, refl, ap, _∙_}
-use mathlib.Core.Bool.{Bool, true, false, cond}
+use mathlib.Core.Path.{_≡_, refl, sym, ap, _∙_}
+use mathlib.Core.Bool.{Bool, true, false, cond, _&&_}
 use mathlib.Core.List.{List}
 use Prim.Native.Nat.{ℕ, _+_, _*_, _<_}
 use native.Mathlib.Omega.{arith}
 use borrow.Author.Tests.{lt-ltb}
 use lib.Arith.{digits-div, digits-mod}
-use lib.Dec.{T, eqb}
+use lib.Dec.{T, eqb, ltb}
 use lib.ListN.{getD}
+use Rattle.galois.proofs.ByIndex.{getD-table}
 use Rattle.code.specs.declared.settings.Settings.{Settings}
 use Rattle.code.specs.Settings.{accepted, kOf, nOf}
 use Rattle.code.proofs.Shape.{shape}
-use Rattle.code.proofs.Tables.{getD-table}
-use Rattle.elimination.specs.Elimination.{knownIn, reducedOf, laneSymbol}
+use Rattle.elimination.specs.Elimination.{symbolOf, knownIn, eliminated}
 use Rattle.elimination.specs.Values.{said}
-use Rattle.elimination.proofs.LaneDecided.{decided}
-use Rattle.protocol.specs.Verdict.{arrived, symbolSaid, wholeByte}
-use Rattle.decision.specs.Decision.{flagAt, flagsOf, byteAt, sharedByte}
+use Rattle.elimination.proofs.LaneDecided.{symbol-decided}
+use Rattle.lanes.specs.Lanes.{laneByte}
+use Rattle.lanes.proofs.Shares.{lane-inside}
+use Rattle.protocol.specs.Verdict.{rowAt, reportedAt, arrived, symbolSaid, wholeByte}
+use Rattle.decision.specs.Decision.{startsOf, placesOf, knownFlag, flagsOf, sharedByte}
 use Rattle.decision.proofs.SameValues.{same-values}
 
 flag-read : (b : Bool) → eqb (cond b 1 0) 1 ≡ b
 flag-read true = refl
 flag-read false = refl
 
-module _ (s : Settings) (passed : T (accepted s)) (rows : List ℕ) (due t i v : ℕ) where
+-- a lane's bytes are bytes
+byte-below : (b : Bool) (x : ℕ) → x < 256 → cond b x 0 < 256
+byte-below true x h = h
+byte-below false x h = omega arith
+
+pub lane-below : (s : Settings) (places rows : List ℕ) → ((q : ℕ) → getD rows q 0 < 256) → (v p : ℕ) → laneByte s places rows v p < 256
+unfolding laneByte
+lane-below s places rows below v p = byte-below (ltb p (nOf s)) (getD rows (getD places p 0 + v) 0) (below (getD places p 0 + v))
+
+-- the flags and the places of the codewords that start at slot t - i
+abbrev pub flagsRead : Settings → List ℕ → ℕ → ℕ → ℕ → List ℕ
+flagsRead s rows due t i = flagsOf rows (due + i) t (startsOf s t i)
+
+abbrev pub placesRead : Settings → ℕ → ℕ → List ℕ
+placesRead s t i = placesOf s (startsOf s t i)
+
+module _ (s : Settings) (passed : T (accepted s)) (rows : List ℕ) (due t i : ℕ) where
   -- the positions known by the flags are those that arrived
-  known-read : (p : ℕ) → p < nOf s → knownIn s (flagsOf s rows due t i) p ≡ arrived s rows due t i v .known p
-  unfolding knownIn flagsOf flagAt arrived
-  known-read p hp =
+  known-read : (v p : ℕ) → p < nOf s → knownIn s (flagsRead s rows due t i) p ≡ arrived s rows due t i v .known p
+  unfolding knownIn flagsOf startsOf knownFlag arrived reportedAt
+  known-read v p hp =
       let h = shape s passed in
+      let start : ℕ → Bool = λ at. ltb (t + p) (due + i) && eqb (getD rows at 0) 1 in
       rw (lt-ltb p (nOf s) hp)
-      (ap (λ (x : ℕ). eqb x 1) (getD-table 16 (flagAt s rows due t i) p 0 (omega arith))
+      (ap (λ (x : ℕ). eqb x 1)
+      (getD-table 16 (λ p. knownFlag rows (due + i) (t + p) (getD (startsOf s t i) p 0)) p 0 (omega arith)
+      ∙ ap (λ (at : ℕ). cond (start at) 1 0) (getD-table 16 (rowAt s t i) p 0 (omega arith)))
       ∙ flag-read (arrived s rows due t i v .known p))
 
-  pub lane-said : i < kOf s → (bytes : List ℕ) → ((p : ℕ) → getD bytes p 0 < 256)
-      → ((p : ℕ) → p < nOf s → getD bytes p 0 ≡ byteAt s rows t i v p)
-      → laneSymbol s (reducedOf s (flagsOf s rows due t i)) (flagsOf s rows due t i) bytes i ≡ symbolSaid s rows due t i v
-  unfolding symbolSaid arrived byteAt
-  lane-said hi bytes below read =
+  -- and their bytes too
+  byte-read : (v p : ℕ) → p < nOf s → laneByte s (placesRead s t i) rows v p ≡ arrived s rows due t i v .byte p
+  unfolding placesOf startsOf arrived
+  byte-read v p hp =
       let h = shape s passed in
-      let flags : List ℕ = flagsOf s rows due t i in
-      decided s passed flags bytes below i (omega arith)
+      let place : getD (placesRead s t i) p 0 + v ≡ rowAt s t i p + (1 + (p * s .lanes + v)) =
+      omega (
+        arith,
+        getD-table 16 (λ p. getD (startsOf s t i) p 0 + (1 + p * s .lanes)) p 0 (omega arith),
+        getD-table 16 (rowAt s t i) p 0 (omega arith),
+      ) in
+      sym (lane-inside s (placesRead s t i) rows v p hp) ∙ ap (λ (at : ℕ). getD rows at 0) place
+
+  pub lane-said : ((q : ℕ) → getD rows q 0 < 256) → i < kOf s → (v : ℕ)
+      → let known = knownIn s (flagsRead s rows due t i) in
+      symbolOf s (eliminated s known) known (laneByte s (placesRead s t i) rows v) i ≡ symbolSaid s rows due t i v
+  unfolding symbolSaid
+  lane-said below hi v =
+      let h = shape s passed in
+      let known : ℕ → Bool = knownIn s (flagsRead s rows due t i) in
+      let byte : ℕ → ℕ = laneByte s (placesRead s t i) rows v in
+      symbol-decided s h (record { known = known; byte = byte }) (lane-below s (placesRead s t i) rows below v) i (omega arith)
       ∙ ap said
-      (same-values s (record { known = knownIn s flags; byte = λ p. getD bytes p 0 }) (arrived s rows due t i v) known-read read i)
+      (same-values s (record { known = known; byte = byte }) (arrived s rows due t i v) (known-read v) (byte-read v) i)
 
 -- byte i × L + v of the message is symbol i of lane v
 pub byte-said : (s : Settings) (rows : List ℕ) (due t i v : ℕ) → v < s .lanes

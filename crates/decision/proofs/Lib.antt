@@ -3,4 +3,7 @@ pub mod Places
 pub mod SameValues
 pub mod Marks
 pub mod LaneSaid
+pub mod Answers
+pub mod Pivots
+pub mod Parts
 pub mod CallOutcomes

@@ -1,20 +1,19 @@
 -- Marks: the larger of two is that of both, and all of them together give the verdict.
-use mathlib.Core.Path.{_≡_, refl}
+use mathlib.Core.Path.{_≡_, refl, subst}
 use mathlib.Core.Bool.{Bool, true, false, cond, _||_}
 use mathlib.Core.List.{List}
 use Prim.Native.Nat.{ℕ, _+_}
 use native.Mathlib.Numerals.{add-one}
 use native.Mathlib.Omega.{arith}
+use borrow.Author.Tests.{ltb-true, ltb-false}
 use lib.Dec.{ltb}
 use Rattle.galois.specs.Bounded.{any}
 use Rattle.code.specs.declared.settings.Settings.{Settings}
 use Rattle.code.specs.Settings.{kOf}
-use Rattle.elimination.specs.declared.lane.Symbol.{Symbol}
-use Rattle.elimination.specs.declared.lane.Symbol.the-variants as symbol
 use Rattle.protocol.specs.declared.Reply.{Reply}
 use Rattle.protocol.specs.declared.Reply.the-variants as reply
 use Rattle.protocol.specs.Verdict.{symbolSaid, isClash, isLost, someCodeword, noneFits, twoDiffer, verdict}
-use Rattle.decision.specs.Decision.{mark, markOf, lanesMark, symbolsMark}
+use Rattle.decision.specs.Decision.{mark, lanesMark, symbolsMark}
 
 abbrev pub larger : ℕ → ℕ → ℕ
 larger a b = cond (ltb a b) b a
@@ -38,22 +37,20 @@ both-marks false false true false = refl
 both-marks false false false true = refl
 both-marks false false false false = refl
 
-mark-of : (a : Symbol) → markOf a ≡ mark (isClash a) (isLost a)
-unfolding mark
-mark-of symbol.Clash = refl
-mark-of symbol.Lost = refl
-mark-of (symbol.Whole b) = refl
-
-pub lanes-more : (s : Settings) (rows : List ℕ) (due t i v : ℕ)
-    → larger (lanesMark s rows due t i v) (markOf (symbolSaid s rows due t i v)) ≡ lanesMark s rows due t i (v + 1)
-unfolding lanesMark any
-lanes-more s rows due t i v =
-    let clash : ℕ → Bool = λ v. isClash (symbolSaid s rows due t i v) in
-    let lost : ℕ → Bool = λ v. isLost (symbolSaid s rows due t i v) in
-    rw (add-one v, mark-of (symbolSaid s rows due t i v)) (both-marks (any v clash) (any v lost) (clash v) (lost v))
+-- a mark of 0 is the larger of two zeros
+pub larger-zero : (a b : ℕ) → larger a b ≡ 0 → (a ≡ 0) × (b ≡ 0)
+larger-zero a b e = go (ltb a b) refl
+  where
+    go : (t : Bool) → ltb a b ≡ t → (a ≡ 0) × (b ≡ 0)
+    go true below =
+        let zero : cond true b a ≡ 0 = subst (λ (t : Bool). cond t b a ≡ 0) below e in
+        absurd (omega (arith, ltb-true a b below))
+    go false above =
+        let zero : cond false b a ≡ 0 = subst (λ (t : Bool). cond t b a ≡ 0) above e in
+        (zero, omega (arith, ltb-false a b above))
 
 pub symbols-more : (s : Settings) (rows : List ℕ) (due t i : ℕ)
-    → larger (symbolsMark s rows due t i) (lanesMark s rows due t i (s .lanes)) ≡ symbolsMark s rows due t (i + 1)
+    → larger (symbolsMark s rows due t i) (lanesMark s rows due t i) ≡ symbolsMark s rows due t (i + 1)
 unfolding symbolsMark lanesMark any
 symbols-more s rows due t i =
     let clash : ℕ → Bool = λ i. any (s .lanes) (λ v. isClash (symbolSaid s rows due t i v)) in

@@ -1,18 +1,17 @@
--- What the receiver works out on its way to a verdict: the known positions, and the worst mark and the bytes so far.
+-- What the receiver works out on its way to a verdict: where the symbols stand, the known positions, and the worst mark so far.
 use mathlib.Core.Path.{_≡_}
-use mathlib.Core.Bool.{Bool, cond}
+use mathlib.Core.Bool.{Bool, cond, _&&_}
 use mathlib.Core.List.{List}
+use mathlib.Core.Logic.{_⊎_}
 use Prim.Native.Nat.{ℕ, _+_, _*_, _/_, _%_, _<_}
-use lib.Dec.{T}
+use lib.Dec.{T, eqb, ltb}
 use lib.ListN.{length, getD}
 use Rattle.galois.specs.Bounded.{any}
 use Rattle.code.specs.declared.settings.Settings.{Settings}
-use Rattle.code.specs.Settings.{accepted}
-use Rattle.code.specs.Table.{table}
-use Rattle.elimination.specs.declared.lane.Symbol.{Symbol}
-use Rattle.elimination.specs.declared.lane.Symbol.the-variants as symbol
+use Rattle.code.specs.Settings.{accepted, kOf}
+use Rattle.galois.specs.Table.{table}
 use Rattle.protocol.specs.Lengths.{receiverLen}
-use Rattle.protocol.specs.Verdict.{rowAt, arrived, symbolSaid, isClash, isLost, wholeByte}
+use Rattle.protocol.specs.Verdict.{rowAt, symbolSaid, isClash, isLost, wholeByte}
 
 -- what a decision on message t asks: accepted settings, rows of their length, and a slot of 32 bits
 pub record Ready (s : Settings) (rows : List ℕ) (t : ℕ) : Type 0 where
@@ -20,32 +19,47 @@ pub record Ready (s : Settings) (rows : List ℕ) (t : ℕ) : Type 0 where
   pub rows-exact : length rows ≡ receiverLen s
   pub slot-fits : t < 4294967296
 
--- 1 if position p of the codewords that start at slot t - i is known, else 0
-unfoldable pub flagAt : Settings → List ℕ → ℕ → ℕ → ℕ → ℕ → ℕ
-flagAt s rows due t i p = cond (arrived s rows due t i 0 .known p) 1 0
+-- where the row of each position of the codewords that start at slot t - i begins
+unfoldable pub startsOf : Settings → ℕ → ℕ → List ℕ
+startsOf s t i = table 16 (rowAt s t i)
 
--- the flags of all positions
-unfoldable pub flagsOf : Settings → List ℕ → ℕ → ℕ → ℕ → List ℕ
-flagsOf s rows due t i = table 16 (flagAt s rows due t i)
+-- where the symbol of each position stands in its row
+unfoldable pub placesOf : Settings → List ℕ → List ℕ
+placesOf s starts = table 16 (λ p. getD starts p 0 + (1 + p * s .lanes))
 
--- the byte of lane v at position p, received or not
-unfoldable pub byteAt : Settings → List ℕ → ℕ → ℕ → ℕ → ℕ → ℕ
-byteAt s rows t i v p = getD rows (rowAt s t i p + (1 + (p * s .lanes + v))) 0
+-- 1 if a slot is below end and its row begins with 1, else 0
+unfoldable pub knownFlag : List ℕ → ℕ → ℕ → ℕ → ℕ
+knownFlag rows end slot start = cond (ltb slot end && eqb (getD rows start 0) 1) 1 0
+
+-- the flags of all positions, of which the first is that of slot t
+unfoldable pub flagsOf : List ℕ → ℕ → ℕ → List ℕ → List ℕ
+flagsOf rows end t starts = table 16 (λ p. knownFlag rows end (t + p) (getD starts p 0))
+
+-- position q is that of a pivot
+pub record Solved (s : Settings) (roles : List ℕ) (q : ℕ) : Type 0 where
+  pub row : ℕ
+  pub below : row < kOf s
+  pub role : getD roles row 0 ≡ q
+  pub inside : q < 16
+
+-- the flags, but that some are 0 at positions of pivots
+unfoldable pub Unsolved : Settings → List ℕ → List ℕ → List ℕ → Type 0
+Unsolved s flags roles left =
+    (q : ℕ) → (getD left q 0 ≡ getD flags q 0) ⊎ ((getD left q 0 ≡ 0) × Solved s roles q)
 
 -- 2 for a clash, else 1 for a loss, else 0
 unfoldable pub mark : Bool → Bool → ℕ
 mark clash lost = cond clash 2 (cond lost 1 0)
 
--- the mark of one symbol
-abbrev pub markOf : Symbol → ℕ
-markOf symbol.Clash = 2
-markOf symbol.Lost = 1
-markOf (symbol.Whole b) = 0
+-- the mark of symbol i in all lanes
+unfoldable pub lanesMark : Settings → List ℕ → ℕ → ℕ → ℕ → ℕ
+lanesMark s rows due t i =
+    mark (any (s .lanes) (λ v. isClash (symbolSaid s rows due t i v))) (any (s .lanes) (λ v. isLost (symbolSaid s rows due t i v)))
 
--- the mark of the first m lanes of symbol i
-unfoldable pub lanesMark : Settings → List ℕ → ℕ → ℕ → ℕ → ℕ → ℕ
-lanesMark s rows due t i m =
-    mark (any m (λ v. isClash (symbolSaid s rows due t i v))) (any m (λ v. isLost (symbolSaid s rows due t i v)))
+-- what is told of symbol i: its mark, and where that is 0 the byte of each lane
+pub record Told (s : Settings) (rows : List ℕ) (due t i r : ℕ) (symbol : List ℕ) : Type 0 where
+  pub marked : r ≡ lanesMark s rows due t i
+  pub shared : r ≡ 0 → (v : ℕ) → v < s .lanes → getD symbol v 0 ≡ wholeByte (symbolSaid s rows due t i v)
 
 -- the mark of the first m symbols
 unfoldable pub symbolsMark : Settings → List ℕ → ℕ → ℕ → ℕ → ℕ

@@ -40,7 +40,7 @@ pub record Invariant (s : Settings) (known : ℕ → Bool) (p : ℕ) (x : Reduce
 -- ---- at the start
 
 -- G itself, with every row free
-invariant-start : (s : Settings) → Shape s → (known : ℕ → Bool) → Invariant s known 0 (columns s known 0)
+invariant-start : (s : Settings) → Shape s → (known : ℕ → Bool) → Invariant s known 0 (columns s (generatorOf s) known 0)
 unfolding columns cell
 invariant-start s h known = record {
   words = spans-equal (kOf s) 16 (cell (generatorOf s)) (entry s) (λ r p hr hp. generator-entry s r p (omega arith) hp);
@@ -132,11 +132,11 @@ module _ (s : Settings) (h : Shape s) (known : ℕ → Bool) (p : ℕ) (hp : p <
 -- ---- all positions
 
 -- it holds after any number of positions
-pub invariant : (s : Settings) → Shape s → (known : ℕ → Bool) (p : ℕ) → p ≤ nOf s → Invariant s known p (columns s known p)
+pub invariant : (s : Settings) → Shape s → (known : ℕ → Bool) (p : ℕ) → p ≤ nOf s → Invariant s known p (columns s (generatorOf s) known p)
 unfolding columns
 invariant s h known zero hp = invariant-start s h known
 invariant s h known (suc p) hp =
-    let x : Reduced = columns s known p in
+    let x : Reduced = columns s (generatorOf s) known p in
     let i : Invariant s known p x = invariant s h known p (omega arith) in
     step-cases (Invariant s known (suc p)) (kOf s) (known p) p x (omega arith)
     (λ unknown. unchanged s h known p hp x i (λ kn. absurd (unknown kn)))

@@ -10,7 +10,7 @@ use native.Mathlib.Omega.{arith}
 use lib.Dec.{T, lit<}
 use lib.ListN.{length, getD}
 use Rattle.galois.proofs.Cases.{any-at, some-any}
-use Rattle.code.specs.Table.{table}
+use Rattle.galois.specs.Table.{table}
 use Rattle.elimination.specs.Values.{anyBytes, passing}
 
 -- ---- lists of bytes

@@ -1,14 +1,18 @@
 -- One column step on the lists: what each row becomes.
-use mathlib.Core.Path.{_≡_, refl, ap, _∙_}
+use mathlib.Core.Path.{_≡_, refl, sym, ap, _∙_}
 use mathlib.Core.Bool.{Bool, true, false, cond}
-use mathlib.Core.List.{List, []}
+use mathlib.Core.List.{List}
 use Prim.Native.Nat.{ℕ, _<_}
 use borrow.Author.Tests.{lt-ltb, le-ltb}
 use lib.Dec.{eqb}
-use lib.ListN.{getD, set}
-use Rattle.galois.specs.Byte.{_⊕_, _⊗_, quotient}
-use Rattle.code.specs.Table.{table}
-use Rattle.code.proofs.Tables.{getD-table, table-equal}
+use lib.ListN.{length, getD, set}
+use Rattle.galois.specs.Byte.{_⊕_, _⊗_, high, low, byte, eight, first, reciprocal, quotient}
+use Rattle.galois.specs.Narrow.{narrow, _⊞_, timesZ, timesBits, _⊠_}
+use Rattle.galois.specs.Table.{table}
+use Rattle.galois.proofs.ByIndex.{getD-table, is-table, table-equal}
+use Rattle.galois.proofs.ByteField.{reciprocal-below}
+use Rattle.galois.proofs.ByteProduct.{times-comm, zero-times, one-times}
+use Rattle.galois.proofs.Xor.{plus-zero}
 use Rattle.elimination.specs.Elimination.{Reduced, cell, scaledAt, cleared, pivotFrom, pivoted, columnStep}
 
 -- row q once row r is the pivot of position p
@@ -26,6 +30,34 @@ row-cleared m r p q false e =
     (table-equal 16 (λ j. cell m q j ⊕ cell m q p ⊗ getD (table 16 (scaledAt m r p)) j 0)
     (λ j. cell m q j ⊕ cell m q p ⊗ scaledAt m r p j)
     (λ j h. ap (λ (x : ℕ). cell m q j ⊕ cell m q p ⊗ x) (getD-table 16 (scaledAt m r p) j 0 h)))
+
+-- a row by the quotient of 1 and a byte is the row divided by it
+pub row-divided : (row : List ℕ) (y : ℕ) → table 16 (λ j. quotient 1 y ⊗ getD row j 0) ≡ table 16 (λ j. quotient (getD row j 0) y)
+unfolding quotient
+row-divided row y =
+    table-equal 16 (λ j. (1 ⊗ reciprocal y) ⊗ getD row j 0) (λ j. getD row j 0 ⊗ reciprocal y)
+    (λ j h. ap (λ (z : ℕ). z ⊗ getD row j 0) (one-times (reciprocal y) (reciprocal-below y)) ∙ times-comm (reciprocal y) (getD row j 0))
+
+one-by-one : reciprocal 1 ≡ 1
+unfolding reciprocal first _⊗_ _⊞_ _⊠_ narrow timesBits timesZ high low byte eight
+one-by-one = refl
+
+-- a row of bytes divided by 1 stays as it is
+pub row-by-one : (row : List ℕ) (y : ℕ) → length row ≡ 16 → ((j : ℕ) → getD row j 0 < 256) → y ≡ 1
+    → row ≡ table 16 (λ j. quotient (getD row j 0) y)
+unfolding quotient
+row-by-one row y n below e =
+    is-table 16 (λ j. getD row j 0 ⊗ reciprocal y) 0 row n
+    (λ j h.
+    sym
+    (ap (λ (z : ℕ). getD row j 0 ⊗ z) (ap reciprocal e ∙ one-by-one) ∙ times-comm (getD row j 0) 1
+    ∙ one-times (getD row j 0) (below j)))
+
+-- a row with 0 times another added stays as it is
+pub row-stays : (row other : List ℕ) (y : ℕ) → length row ≡ 16 → y ≡ 0 → row ≡ table 16 (λ j. getD row j 0 ⊕ y ⊗ getD other j 0)
+row-stays row other y n e =
+    is-table 16 (λ j. getD row j 0 ⊕ y ⊗ getD other j 0) 0 row n
+    (λ j h. sym (rw (e, zero-times (getD other j 0)) (plus-zero (getD row j 0))))
 
 -- ---- one position
 

@@ -12,8 +12,8 @@ use Rattle.galois.specs.Byte.{_⊕_, _⊗_, reciprocal, quotient}
 use Rattle.galois.proofs.Xor.{plus-below, plus-self, plus-zero}
 use Rattle.galois.proofs.ByteProduct.{times-below, times-comm, times-zero, one-times}
 use Rattle.galois.proofs.ByteField.{times-reciprocal}
-use Rattle.code.specs.Table.{table}
-use Rattle.code.proofs.Tables.{getD-table}
+use Rattle.galois.specs.Table.{table}
+use Rattle.galois.proofs.ByIndex.{getD-table}
 use Rattle.elimination.specs.Elimination.{cell, scaledAt, cleared}
 use Rattle.elimination.proofs.Spans.{Spans, spans-step}
 

@@ -9,10 +9,10 @@ use lib.ListN.{getD}
 use Rattle.galois.proofs.Cases.{and-left, and-right, both-pass}
 use Rattle.code.specs.declared.settings.Settings.{Settings}
 use Rattle.code.specs.Settings.{kOf}
-use Rattle.code.specs.Table.{table}
+use Rattle.galois.specs.Table.{table}
 use Rattle.code.specs.Word.{wordAt}
 use Rattle.code.specs.Fitting.{Arrived, fits}
-use Rattle.code.proofs.Tables.{length-table, getD-table}
+use Rattle.galois.proofs.ByIndex.{length-table, getD-table}
 use Rattle.code.proofs.Words.{wordAt-equal, wordAt-below}
 use Rattle.code.proofs.Fits.{fits-at, fits-all}
 use Rattle.elimination.specs.declared.lane.Symbol.the-variants.{Clash, Lost, Whole}

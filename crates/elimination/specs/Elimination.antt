@@ -1,4 +1,4 @@
--- Elimination on a copy of G over the known positions in order, as lists, and the answer that it gives for one lane.
+-- Elimination of a matrix over the known positions in order, as lists, and what it says of a symbol.
 use mathlib.Core.Bool.{Bool, true, false, cond, not, _&&_}
 use mathlib.Core.List.{List, [], _∷_}
 use Prim.Native.Nat.{ℕ, zero, suc}
@@ -10,7 +10,7 @@ use Rattle.galois.specs.Sum.{sum}
 use Rattle.code.specs.declared.settings.Settings.{Settings}
 use Rattle.code.specs.Matrix.{generatorOf}
 use Rattle.code.specs.Settings.{accepted, kOf, nOf}
-use Rattle.code.specs.Table.{table}
+use Rattle.galois.specs.Table.{table}
 use Rattle.elimination.specs.declared.lane.Symbol.{Symbol}
 use Rattle.elimination.specs.declared.lane.Symbol.the-variants.{Clash, Lost, Whole}
 
@@ -54,14 +54,14 @@ pivoted x r p =
 unfoldable pub columnStep : ℕ → Bool → ℕ → Reduced → Reduced
 columnStep k known p x = elim known [ true ↦ pivoted x (pivotFrom x p 0 k) p | false ↦ x ]
 
--- the first m positions done
-unfoldable pub columns : Settings → (ℕ → Bool) → ℕ → Reduced
-columns s known zero = record { rows = generatorOf s; roles = replicate 16 16 }
-columns s known (suc p) = columnStep (kOf s) (known p) p (columns s known p)
+-- the matrix m with its first p positions done
+unfoldable pub columns : Settings → List (List ℕ) → (ℕ → Bool) → ℕ → Reduced
+columns s m known zero = record { rows = m; roles = replicate 16 16 }
+columns s m known (suc p) = columnStep (kOf s) (known p) p (columns s m known p)
 
--- all positions done
+-- G with all positions done
 unfoldable pub eliminated : Settings → (ℕ → Bool) → Reduced
-eliminated s known = columns s known (nOf s)
+eliminated s known = columns s (generatorOf s) known (nOf s)
 
 -- the sum of the pivots' rows, each by the byte at its position, at position q
 unfoldable pub combined : Settings → Reduced → (ℕ → ℕ) → ℕ → ℕ
@@ -88,18 +88,14 @@ symbolOf s x known byte i =
 unfoldable pub knownIn : Settings → List ℕ → ℕ → Bool
 knownIn s flags p = ltb p (nOf s) && eqb (getD flags p 0) 1
 
--- elimination over the flags; for settings that are not accepted, zeros and no pivot
-unfoldable pub reducedOf : Settings → List ℕ → Reduced
-reducedOf s flags =
+-- elimination of the matrix m over the flags; for settings that are not accepted, zeros and no pivot
+unfoldable pub reducedFrom : Settings → List (List ℕ) → List ℕ → Reduced
+reducedFrom s m flags =
     elim (accepted s) [
-      | true ↦ eliminated s (knownIn s flags)
+      | true ↦ columns s m (knownIn s flags) (nOf s)
       | false ↦ record { rows = table 16 (λ r. table 16 (λ p. 0)); roles = replicate 16 16 }
     ]
 
--- what elimination says of position i of a lane's bytes; lost for settings that are not accepted, or a position outside the word
-unfoldable pub laneSymbol : Settings → Reduced → List ℕ → List ℕ → ℕ → Symbol
-laneSymbol s x flags bytes i =
-    elim (accepted s && ltb i (nOf s)) [
-      | true ↦ symbolOf s x (knownIn s flags) (λ p. getD bytes p 0) i
-      | false ↦ Lost
-    ]
+-- elimination of G over the flags
+unfoldable pub reducedOf : Settings → List ℕ → Reduced
+reducedOf s flags = reducedFrom s (generatorOf s) flags

@@ -3,5 +3,4 @@ mod lane;
 mod reduction;
 
 pub use lane::Symbol;
-pub use lane::symbol_of;
 pub use reduction::eliminate;

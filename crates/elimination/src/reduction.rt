@@ -1,14 +1,16 @@
-// Elimination on a copy of the generator matrix, over the known positions in order. It is the same for every lane.
+// Elimination on a copy of a matrix, over the known positions in order. It is the same for every lane.
 use code::Settings;
 use galois::Gf256;
+use multiples::row_plus;
+use multiples::row_times;
 ghost use mathlib.Core.Bool.{cond};
 ghost use mathlib.Core.Path.{_≡_};
 ghost use Prim.Native.Nat.{_≤_, _<_};
 ghost use lib.Dec.{eqb};
 ghost use lib.ListN.{length, getD};
 ghost use Rattle.galois.specs.Byte.{_⊕_, _⊗_, quotient};
-ghost use Rattle.code.specs.Table.{table};
-ghost use Rattle.elimination.specs.Elimination.{pivotFrom, cleared, columnStep, reducedOf};
+ghost use Rattle.galois.specs.Table.{table};
+ghost use Rattle.elimination.specs.Elimination.{pivotFrom, cleared, columnStep, reducedFrom};
 
 // The first row below k that is free and not 0 at position p, or 16.
 fn pivot_row(rows: &[[u8; 16]; 16], roles: &[u8; 16], p: usize, k: usize) -> usize
@@ -27,35 +29,18 @@ fn pivot_row(rows: &[[u8; 16]; 16], roles: &[u8; 16], p: usize, k: usize) -> usi
     16
 }
 
-// A row scaled to 1 at position p.
+// A row scaled to 1 at position p; one that is 1 there stays as it is.
 fn scaled(row: [u8; 16], p: usize) -> [u8; 16]
     requires { ⌜ p < 16 ⌝ }
     ensures { λ r. ⌜ r ≡ table 16 (λ j. quotient (getD row j 0) (getD row p 0)) ⌝ }
 {
-    let mut out = [0u8; 16];
-    let mut j: usize = 0;
-    while j < 16 {
-        out[j] = Gf256(row[j]).quotient(Gf256(row[p])).0;
-        j += 1;
+    if row[p] == 1 {
+        return row;
     }
-    out
+    row_times(row, Gf256(1).quotient(Gf256(row[p])).0)
 }
 
-// A row with position p cleared by a pivot's row.
-fn without(row: [u8; 16], pivot: [u8; 16], p: usize) -> [u8; 16]
-    requires { ⌜ p < 16 ⌝ }
-    ensures { λ r. ⌜ r ≡ table 16 (λ j. getD row j 0 ⊕ getD row p 0 ⊗ getD pivot j 0) ⌝ }
-{
-    let mut out = [0u8; 16];
-    let mut j: usize = 0;
-    while j < 16 {
-        out[j] = Gf256(row[j]).sum(Gf256(row[p]).product(Gf256(pivot[j]))).0;
-        j += 1;
-    }
-    out
-}
-
-// The pivot's row itself, or another row with position p cleared.
+// The pivot's row itself, or another row with position p cleared by it; one that is 0 there stays as it is.
 fn replaced(row: [u8; 16], pivot: [u8; 16], p: usize, own: bool) -> [u8; 16]
     requires { ⌜ p < 16 ⌝ }
     ensures { λ r. ⌜ r ≡ cond own pivot (table 16 (λ j. getD row j 0 ⊕ getD row p 0 ⊗ getD pivot j 0)) ⌝ }
@@ -63,7 +48,10 @@ fn replaced(row: [u8; 16], pivot: [u8; 16], p: usize, own: bool) -> [u8; 16]
     if own {
         return pivot;
     }
-    without(row, pivot, p)
+    if row[p] == 0 {
+        return row;
+    }
+    row_plus(row, row[p], pivot)
 }
 
 // Row r is scaled to 1 at position p, which is cleared from every other row.
@@ -95,17 +83,21 @@ fn column_step(rows: &mut [[u8; 16]; 16], roles: &mut [u8; 16], flag: u8, p: usi
     roles[r] = p as u8;
 }
 
-// G after elimination over the positions whose flag is 1, with the role of each row; for settings that are not accepted,
-// zeros, and no pivot.
-pub fn eliminate(s: Settings, flags: [u8; 16], roles: &mut [u8; 16]) -> [[u8; 16]; 16]
-    ensures { λ r. ⌜ record { rows = r; roles = now (roles .exit) } ≡ reducedOf s flags ⌝ }
+// A matrix after elimination over the positions whose flag is 1, with the role of each row; for settings that are not
+// accepted, zeros, and no pivot.
+pub fn eliminate(
+    s: Settings,
+    matrix: [[u8; 16]; 16],
+    flags: [u8; 16],
+    roles: &mut [u8; 16],
+) -> [[u8; 16]; 16]
+    ensures { λ r. ⌜ record { rows = r; roles = now (roles .exit) } ≡ reducedFrom s matrix flags ⌝ }
 {
-    let mut rows = [[0u8; 16]; 16];
     *roles = [16u8; 16];
     if !s.accepted() {
-        return rows;
+        return [[0u8; 16]; 16];
     }
-    rows = code::generator(s);
+    let mut rows = matrix;
     let mut p: usize = 0;
     while p < s.symbols() {
         column_step(&mut rows, roles, flags[p], p, s.sources());

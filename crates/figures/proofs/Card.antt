@@ -9,7 +9,7 @@ use Rattle.galois.specs.Narrow.{narrow, timesZ, timesBits, _⊞_, _⊠_, narrow
 use Rattle.galois.specs.Byte.{_⊕_, high, low, byte, alpha, eight, _⊗_, first, reciprocal, quotient, widen}
 use Rattle.galois.specs.Sum.{sum}
 use Rattle.code.specs.declared.settings.Settings.{Settings}
-use Rattle.code.specs.Table.{table}
+use Rattle.galois.specs.Table.{table}
 use Rattle.code.specs.Settings.{delayOf, kOf, nOf, dOf, all, accepted}
 use Rattle.code.specs.Matrix.{point, factor, product, spread, alphaEntry, entry, generatorOf}
 use Rattle.code.specs.Word.{wordAt, multipliers, symbol}

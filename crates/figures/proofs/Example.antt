@@ -11,7 +11,7 @@ use Rattle.galois.specs.Byte.{_⊕_, high, low, byte, alpha, eight, _⊗_, firs
 use Rattle.galois.specs.Sum.{sum}
 use Rattle.galois.proofs.Cases.{and-left, and-right, both-pass}
 use Rattle.code.specs.declared.settings.Settings.{Settings}
-use Rattle.code.specs.Table.{table}
+use Rattle.galois.specs.Table.{table}
 use Rattle.code.specs.Settings.{accepted, all, delayOf, kOf, nOf, dOf}
 use Rattle.code.specs.Matrix.{point, factor, product, spread, alphaEntry, entry, generatorOf}
 use Rattle.elimination.specs.Elimination.{cell, free, pivotFrom, scaledAt, cleared, pivoted, columnStep, columns, eliminated}

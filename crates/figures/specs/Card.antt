@@ -7,7 +7,7 @@ use Rattle.galois.specs.Byte.{_⊗_, reciprocal}
 use Rattle.code.specs.declared.settings.Settings.{Settings}
 use Rattle.code.specs.Matrix.{entry}
 use Rattle.code.specs.Settings.{kOf}
-use Rattle.code.specs.Table.{table}
+use Rattle.galois.specs.Table.{table}
 use Rattle.code.specs.Word.{symbol}
 use Rattle.protocol.specs.declared.Reply.{Reply}
 use Rattle.protocol.specs.declared.Reply.the-variants as reply

@@ -4,50 +4,57 @@ mod random;
 mod word;
 
 use code::Settings;
-use elimination::Symbol;
-ghost use Prim.Native.Nat.{_≤_, _<_};
-ghost use Rattle.code.specs.Settings.{nOf};
+ghost use mathlib.Core.Path.{_≡_};
+ghost use Prim.Native.Nat.{_<_};
+ghost use lib.Dec.{T};
+ghost use Rattle.code.specs.Settings.{accepted};
 
 fn print_field(n: u64) {
     io::print_decimal(1, n);
     io::write_all(1, b" ");
 }
 
-fn print_answer(answer: Symbol) {
-    match answer {
-        Symbol::Clash => {
+// What the mark says; the byte is that of a symbol which is whole.
+fn print_answer(mark: u8, byte: u8) {
+    match mark {
+        2 => {
             io::write_all(1, b"clash\n");
         }
-        Symbol::Lost => {
+        1 => {
             io::write_all(1, b"lost\n");
         }
-        Symbol::Whole(b) => {
+        _ => {
             io::write_all(1, b"whole ");
-            io::print_decimal(1, b as u64);
+            io::print_decimal(1, byte as u64);
             io::write_all(1, b"\n");
         }
     }
 }
 
 fn pattern(s: Settings, j: u8, x: &mut u64)
-    requires { ⌜ nOf s ≤ 16 ⌝ }
+    requires { ⌜ T (accepted s) × (s .lanes ≡ 1) ⌝ }
 {
     let i = random::below(x, s.sources());
     let flags = random::flags(x);
     let bytes = word::arrived(s, j, x);
+    let places = [0usize, 1, 2, 3, 4, 5, 6, 7, 8, 9, 10, 11, 12, 13, 14, 15];
     let mut roles = [0u8; 16];
-    let rows = elimination::eliminate(s, flags, &mut roles);
+    let rows = elimination::eliminate(s, code::generator(s), flags, &mut roles);
+    let mut symbol = [0u8; 1];
+    let mark = lanes::answer(s, &rows, roles, flags, &places, &bytes, i, &mut symbol);
     print_field(s.delay as u64);
     print_field(s.burst as u64);
     print_field(s.scattered as u64);
     print_field(j as u64);
     print_field(i as u64);
-    print_answer(elimination::symbol_of(s, rows, roles, flags, bytes, i));
+    print_answer(mark, symbol[0]);
 }
 
-// Six patterns, where n is at most 16.
-fn patterns(s: Settings, x: &mut u64) {
-    if 16 < s.symbols() {
+// Six patterns, for settings that are accepted.
+fn patterns(s: Settings, x: &mut u64)
+    requires { ⌜ s .lanes ≡ 1 ⌝ }
+{
+    if !s.accepted() {
         return;
     }
     let mut j: u8 = 0;

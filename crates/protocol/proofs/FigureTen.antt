@@ -15,7 +15,7 @@ use Rattle.galois.specs.Sum.{sum}
 use Rattle.galois.proofs.Cases.{is-true, at}
 use Rattle.code.specs.declared.settings.Settings.{Settings}
 use Rattle.code.specs.Settings.{delayOf, kOf, nOf, dOf, all, accepted}
-use Rattle.code.specs.Table.{table}
+use Rattle.galois.specs.Table.{table}
 use Rattle.code.specs.Matrix.{point, factor, product, spread, alphaEntry, entry}
 use Rattle.code.specs.Word.{wordAt, multipliers, symbol}
 use Rattle.repair.specs.Fair.{Fair, losses, runAt, oneRun, fairStretch}

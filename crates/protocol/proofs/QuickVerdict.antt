@@ -13,9 +13,9 @@ use Rattle.galois.proofs.Cases.{and-left, and-right, both-pass}
 use Rattle.code.specs.declared.settings.Settings.{Settings}
 use Rattle.code.specs.Fitting.{Arrived}
 use Rattle.code.specs.Settings.{accepted, delayOf, kOf, nOf}
-use Rattle.code.specs.Table.{table}
+use Rattle.galois.specs.Table.{table}
 use Rattle.code.proofs.Shape.{shape}
-use Rattle.code.proofs.Tables.{table-equal}
+use Rattle.galois.proofs.ByIndex.{table-equal}
 use Rattle.elimination.specs.declared.lane.Symbol.{Symbol}
 use Rattle.elimination.specs.Elimination.{eliminated, symbolOf}
 use Rattle.elimination.proofs.LaneDecided.{symbol-decided}

@@ -17,7 +17,7 @@ use Rattle.code.specs.Word.{wordAt, symbol}
 use Rattle.code.proofs.Fits.{fits-all}
 use Rattle.code.proofs.Shape.{Shape}
 use Rattle.code.proofs.Symbols.{multiplier-below}
-use Rattle.code.proofs.Tables.{length-table}
+use Rattle.galois.proofs.ByIndex.{length-table}
 use Rattle.repair.specs.Fair.{Fair, lostPosition}
 use Rattle.repair.proofs.Window.{window-fits}
 use Rattle.protocol.specs.declared.Reply.{Reply}

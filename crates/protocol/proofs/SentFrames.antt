@@ -14,7 +14,7 @@ use Rattle.code.specs.declared.settings.Settings.{Settings}
 use Rattle.code.specs.Settings.{kOf, nOf}
 use Rattle.code.specs.Word.{symbol}
 use Rattle.code.proofs.Shape.{Shape}
-use Rattle.code.proofs.Tables.{getD-table}
+use Rattle.galois.proofs.ByIndex.{getD-table}
 use Rattle.code.proofs.Symbols.{symbol-equal}
 use Rattle.protocol.specs.declared.Sender.{Sender}
 use Rattle.protocol.specs.Lengths.{bodyLen}

@@ -11,7 +11,7 @@ use lib.ListN.{length, getD, length-append}
 use Rattle.code.specs.declared.settings.Settings.{Settings}
 use Rattle.code.specs.Settings.{accepted, nOf}
 use Rattle.code.proofs.Shape.{Shape, shape}
-use Rattle.code.proofs.Tables.{length-table}
+use Rattle.galois.proofs.ByIndex.{length-table}
 use Rattle.protocol.specs.declared.Sender.{Sender}
 use Rattle.protocol.specs.declared.Answer.the-variants as answer
 use Rattle.protocol.specs.Lengths.{lastSlot, messageLen, bodyLen, frameLen, senderLen}

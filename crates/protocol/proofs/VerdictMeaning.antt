@@ -13,7 +13,7 @@ use Rattle.code.specs.declared.settings.Settings.{Settings}
 use Rattle.code.specs.Fitting.{fits}
 use Rattle.code.specs.Settings.{kOf}
 use Rattle.code.specs.Word.{wordAt}
-use Rattle.code.proofs.Tables.{getD-table}
+use Rattle.galois.proofs.ByIndex.{getD-table}
 use Rattle.elimination.specs.declared.lane.Symbol.{Symbol}
 use Rattle.elimination.specs.declared.lane.Symbol.the-variants as symbol
 use Rattle.elimination.specs.Values.{values, said}

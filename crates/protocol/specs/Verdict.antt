@@ -8,7 +8,7 @@ use Rattle.galois.specs.Bounded.{any}
 use Rattle.code.specs.declared.settings.Settings.{Settings}
 use Rattle.code.specs.Fitting.{Arrived}
 use Rattle.code.specs.Settings.{kOf}
-use Rattle.code.specs.Table.{table}
+use Rattle.galois.specs.Table.{table}
 use Rattle.elimination.specs.declared.lane.Symbol.{Symbol}
 use Rattle.elimination.specs.declared.lane.Symbol.the-variants as symbol
 use Rattle.elimination.specs.Values.{values, said}

@@ -11,8 +11,8 @@ use lib.Seq.{ext-getD}
 use borrow.Author.Tests.{ne-eqb}
 use Rattle.code.specs.declared.settings.Settings.{Settings}
 use Rattle.code.specs.Settings.{accepted}
-use Rattle.code.specs.Table.{table}
-use Rattle.code.proofs.Tables.{length-table, getD-table}
+use Rattle.galois.specs.Table.{table}
+use Rattle.galois.proofs.ByIndex.{length-table, getD-table}
 use Rattle.protocol.specs.declared.Answer.the-variants as answer
 use Rattle.protocol.specs.Lengths.{bodyLen, rowLen, rowCount, receiverLen}
 use Rattle.protocol.specs.Rows.{joined}

@@ -9,7 +9,7 @@ ghost use Prim.Native.Nat.{_+_, _%_, _≤_, _<_};
 ghost use lib.Dec.{T, eqb};
 ghost use lib.ListN.{length, take, drop, replicate};
 ghost use Rattle.code.specs.Settings.{accepted};
-ghost use Rattle.code.specs.Table.{table};
+ghost use Rattle.galois.specs.Table.{table};
 ghost use Rattle.protocol.specs.Lengths.{frameLen, rowLen, rowCount, receiverLen};
 ghost use Rattle.protocol.specs.Rows.{putRow};
 

@@ -11,10 +11,10 @@ use Rattle.galois.proofs.ByteProduct.{times-below, times-comm, times-zero, one-
 use Rattle.galois.proofs.Sums.{sum-equal, sum-single, sum-below}
 use Rattle.code.specs.declared.settings.Settings.{Settings}
 use Rattle.code.specs.Settings.{accepted, kOf}
-use Rattle.code.specs.Table.{table}
+use Rattle.galois.specs.Table.{table}
 use Rattle.code.specs.Word.{wordAt, multipliers, symbol, unit, systematicOf}
 use Rattle.code.proofs.Shape.{Shape}
-use Rattle.code.proofs.Tables.{getD-table}
+use Rattle.galois.proofs.ByIndex.{getD-table}
 use Rattle.code.proofs.Words.{word-equal}
 use Rattle.code.proofs.Symbols.{multiplier-below, symbol-source}
 use Rattle.code.proofs.BackSubstitution.{unit-self, unit-other, unit-below, word-of-sum, systematic-accepted}

@@ -1,8 +1,7 @@
 // The frame of the slot due: 14 bytes of header, then the body.
-use crate::parity::sent_symbol;
+use crate::parity::write_parity;
 use code::Settings;
 use code::systematic;
-use protocol::body_len;
 use protocol::header_bytes;
 use protocol::write_at;
 ghost use mathlib.Core.List.{_++_};
@@ -14,7 +13,7 @@ ghost use Rattle.code.specs.Word.{systematicOf};
 ghost use Rattle.protocol.specs.Frame.{bodyOf, frameOf};
 ghost use Rattle.protocol.specs.Lengths.{messageLen, frameLen, senderLen};
 
-// Writes the body after the header, a symbol a turn.
+// Writes the body after the header: the message, whose symbols are the first k, then a parity symbol a turn.
 fn write_body(
     frame: &mut [u8],
     form: &[[u8; 16]; 16],
@@ -27,11 +26,12 @@ fn write_body(
     ensures { λ _. ⌜ now (frame .exit) ≡ take 14 (now (frame .entry)) ++ bodyOf s (now (rows .entry)) (now (message .entry)) due ⌝ }
 {
     let lanes = s.lanes as usize;
-    let body = body_len(s);
-    let mut q: usize = 0;
-    while q < body {
-        frame[14 + q] = sent_symbol(form, rows, message, s, due, q / lanes, q % lanes);
-        q += 1;
+    write_at(frame, 14, message);
+    let mut p = s.sources();
+    while p < s.symbols() {
+        let start = 14 + p * lanes;
+        write_parity(&mut frame[start..start + lanes], form, rows, s, due, p);
+        p += 1;
     }
 }
 

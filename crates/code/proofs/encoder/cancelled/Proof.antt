@@ -1,15 +1,18 @@
--- The loop adds one multiple a turn: after m it has cancelled the source symbols i + 1 to m - 1.
+-- The loop adds one multiple a turn, or none where it is 0: before m it has cancelled the source symbols i + 1 to m - 1.
 use borrow.Author.Needs.{needs}
 use mathlib.Core.Path.{_≡_, sym, ap, _∙_}
 use mathlib.Core.List.{List, []}
+use mathlib.Core.Logic.{⊎-elim}
 use native.Mathlib.Omega.{arith}
-use Prim.Native.Nat.{ℕ, suc, _+_, _-_, _<_, _≤_}
+use Prim.Native.Nat.{ℕ, suc, _+_, _-_, _≤_}
+use denote.Ref.{now}
 use lib.ListN.{length, getD}
 use Rattle.galois.specs.Byte.{_⊕_, _⊗_}
 use Rattle.galois.specs.Sum.{sum}
 use Rattle.galois.proofs.Xor.{plus-assoc, plus-zero}
-use Rattle.code.specs.Table.{table}
-use Rattle.code.proofs.Tables.{is-table, length-table, getD-table, table-equal}
+use Rattle.galois.proofs.ByteProduct.{zero-times}
+use Rattle.galois.specs.Table.{table}
+use Rattle.galois.proofs.ByIndex.{is-table, getD-table, table-equal}
 use Rattle.code.proofs.encoder.cancelled.Statement.{statement}
 use Rattle.code.proofs.encoder.cancelled.Tie as tie
 
@@ -34,11 +37,19 @@ reached-more row done i m p h =
     (plus-assoc (getD row p 0) (sum (m - (i + 1)) (λ e. term (i + 1 + e))) (term m)
     ∙ ap (λ (x : ℕ). getD row p 0 ⊕ (sum (m - (i + 1)) (λ e. term (i + 1 + e)) ⊕ x)) (ap term (sym last)))
 
+-- nothing where the multiple is 0
+reached-same : (row : List ℕ) (done : List (List ℕ)) (i m p : ℕ) → i + 1 ≤ m → getD row m 0 ≡ 0
+    → reached row done i m p ≡ reached row done i (m + 1) p
+reached-same row done i m p h none =
+    sym (ap (λ (x : ℕ). reached row done i m p ⊕ x) (ap (λ (x : ℕ). x ⊗ getD (getD done m []) p 0) none ∙ zero-times (getD (getD done m []) p 0))
+    ∙ plus-zero (reached row done i m p))
+    ∙ reached-more row done i m p h
+
 abbrev Inv-loop : tie.InvT-loop
-Inv-loop i k row done out₀ m₀ out m = (i + 1 ≤ m) × (m ≤ k) × (out ≡ table 16 (reached row done i m))
+Inv-loop done i k row out₀ m₀ out m = (i + 1 ≤ m) × (m ≤ k) × (out ≡ table 16 (reached row done i m))
 
 abbrev μ-loop : tie.MeasureT-loop
-μ-loop i k row done out₀ m₀ out m = k - m
+μ-loop done i k row out₀ m₀ out m = k - m
 
 loop-holds : tie.Need-loop-holds Inv-loop μ-loop
 loop-holds c =
@@ -46,23 +57,28 @@ loop-holds c =
     let sixteen : length (a .t1) ≡ 16 = search needs in (
       omega arith,
       omega arith,
-      is-table 16 (reached (a .t1) (a .t2) (a .i) (a .i + 1)) 0 (a .t1) sixteen (λ p h. reached-none (a .t1) (a .t2) (a .i) p),
+      is-table 16 (reached (a .t1) (now (a .done)) (a .i) (a .i + 1)) 0 (a .t1) sixteen
+          (λ p h. reached-none (a .t1) (now (a .done)) (a .i) p),
     )
 
 loop-again : tie.Need-loop-again Inv-loop μ-loop
 loop-again c =
-    let at-loop = c .before .before .before .before .before in
-    let at = at-loop .loop in
-    let a = at-loop .before .args in
-    let f : ℕ → ℕ → ℕ = reached (a .t1) (a .t2) (a .i) in (
+    let at = c .before .before .loop in
+    let a = c .before .before .before .args in
+    let f : ℕ → ℕ → ℕ = reached (a .t1) (now (a .done)) (a .i) in (
       omega arith,
       omega arith,
-      c .before .add-multiple .ensures
-          ∙ table-equal 16 (λ p. getD (at .out) p 0 ⊕ getD (a .t1) (at .m) 0 ⊗ getD (getD (a .t2) (at .m) []) p 0) (f (at .m + 1))
+      ⊎-elim
+          (λ way. way .3 ∙ way .2 .ensures
+          ∙ table-equal 16 (λ p. getD (at .out) p 0 ⊕ getD (a .t1) (at .m) 0 ⊗ getD (getD (now (a .done)) (at .m) []) p 0) (f (at .m + 1))
           (λ p h.
-          ap (λ (x : ℕ). x ⊕ getD (a .t1) (at .m) 0 ⊗ getD (getD (a .t2) (at .m) []) p 0)
+          ap (λ (x : ℕ). x ⊕ getD (a .t1) (at .m) 0 ⊗ getD (getD (now (a .done)) (at .m) []) p 0)
           (ap (λ (l : List ℕ). getD l p 0) (at .inv .2) ∙ getD-table 16 (f (at .m)) p 0 h)
-          ∙ reached-more (a .t1) (a .t2) (a .i) (at .m) p (at .inv .0)),
+          ∙ reached-more (a .t1) (now (a .done)) (a .i) (at .m) p (at .inv .0)))
+          (λ way. way .1 ∙ at .inv .2
+          ∙ table-equal 16 (f (at .m)) (f (at .m + 1))
+          (λ p _. reached-same (a .t1) (now (a .done)) (a .i) (at .m) p (at .inv .0) (way .0 .left)))
+          (c .if1 .came),
     )
 
 returns : tie.Need-returns Inv-loop μ-loop
@@ -70,7 +86,7 @@ returns c =
     let at = c .before .loop in
     let a = c .before .before .args in
     let all : at .m ≡ a .k = omega arith in
-    at .inv .2 ∙ ap (λ (m : ℕ). table 16 (reached (a .t1) (a .t2) (a .i) m)) all
+    at .inv .2 ∙ ap (λ (m : ℕ). table 16 (reached (a .t1) (now (a .done)) (a .i) m)) all
 
 pub cancelled-spec : {M : Type 1} → statement M
 cancelled-spec =
@@ -80,11 +96,11 @@ cancelled-spec =
     μ-loop
     (λ c. search needs)
     loop-holds
-    (λ c. sym (ap length (c .before .before .loop .inv .2) ∙ simp length-table))
     (λ c. omega arith)
     (λ c. omega arith)
     (λ c. omega arith)
-    (λ c κs. ap length (c .before .before .before .loop .inv .2) ∙ simp length-table)
+    (λ c. omega arith)
+    (λ c κs. search needs)
     (λ c. omega arith)
     (λ c. omega arith)
     loop-again

@@ -13,10 +13,10 @@ use lib.Seq.{getD-set-same, getD-set-other}
 use Rattle.galois.specs.Byte.{_⊕_, _⊗_}
 use Rattle.galois.specs.Sum.{sum}
 use Rattle.code.specs.Settings.{kOf}
-use Rattle.code.specs.Table.{table}
+use Rattle.galois.specs.Table.{table}
 use Rattle.code.specs.Word.{symbol, unit, systematicOf}
 use Rattle.code.proofs.Shape.{Shape, shape}
-use Rattle.code.proofs.Tables.{is-table, getD-table, table-equal}
+use Rattle.galois.proofs.ByIndex.{is-table, getD-table, table-equal}
 use Rattle.code.proofs.BackSubstitution.{unit-outside, row-done, systematic-accepted, systematic-refused}
 use Rattle.code.proofs.encoder.systematic.Statement.{statement}
 use Rattle.code.proofs.encoder.systematic.Tie as tie
@@ -54,7 +54,7 @@ cancelled-requires c κs = omega arith
 
 loop-again : tie.Need-loop-again Inv-loop μ-loop
 loop-again c =
-    let at-loop = c .before .before .before .before in
+    let at-loop = c .before .before .before .before .before in
     let at = at-loop .loop in
     let at-generator = at-loop .before .before in
     let s = at-generator .before .before .before .args .s in

@@ -1,40 +1,102 @@
--- The loop fills the matrix row by row.
+-- The rows are done from the last one up: at i, rows i and up are G's, and `above` holds the products over the zero points above row i - 1.
 use borrow.Author.Needs.{needs}
-use mathlib.Core.Path.{_≡_, refl}
-use mathlib.Core.List.{[]}
-use native.Mathlib.Nat.{not-suc-le-zero}
+use mathlib.Core.Path.{_≡_, refl, sym, ap, ap₂, _∙_, subst, subst⁻¹}
+use mathlib.Core.Bool.{true}
+use mathlib.Core.List.{List, []}
+use mathlib.Core.Logic.{⊎-elim}
+use native.Mathlib.Nat.{eq-or-lt-of-le}
 use native.Mathlib.Omega.{arith}
-use Prim.Native.Nat.{ℕ, _-_, _<_, _≤_, zero-le}
-use lib.ListN.{length, getD, length-set}
+use Prim.Native.Nat.{ℕ, _+_, _-_, _<_, _≤_}
+use borrow.Author.Tests.{not-false}
+use lib.Dec.{T}
+use lib.ListN.{length, getD, set, length-set}
+use lib.Seq.{getD-set-same, getD-set-other}
+use Rattle.galois.specs.Narrow.{_⊞_, _⊠_}
+use Rattle.galois.specs.Table.{table}
+use Rattle.galois.proofs.ByIndex.{is-table, getD-table, table-equal}
+use Rattle.code.specs.Settings.{accepted, kOf}
 use Rattle.code.specs.Matrix.{entry, generatorOf}
-use Rattle.code.specs.Table.{table}
-use Rattle.code.proofs.Tables.{is-table, filled-more}
+use Rattle.code.specs.Span.{span}
+use Rattle.code.proofs.Shape.{Shape, shape}
+use Rattle.code.proofs.Entries.{entry-row-outside}
+use Rattle.code.proofs.Spans.{span-before}
 use Rattle.code.proofs.matrix.generator.Statement.{statement}
 use Rattle.code.proofs.matrix.generator.Tie as tie
 
 abbrev Inv-loop : tie.InvT-loop
-Inv-loop s rows₀ i₀ rows i =
-    (i ≤ 16) × (length rows ≡ 16) × ((r : ℕ) → r < i → getD rows r [] ≡ table 16 (λ j. entry s r j))
+Inv-loop s below rows₀ above₀ i₀ rows above i =
+    (accepted s ≡ true) × Shape s × (i ≤ kOf s) × (length rows ≡ 16)
+    × ((r : ℕ) → i ≤ r → r < 16 → getD rows r [] ≡ table 16 (λ j. entry s r j))
+    × (above ≡ table 16 (λ j. span (i + s .scattered - 1) (kOf s - i) j))
 
 abbrev μ-loop : tie.MeasureT-loop
-μ-loop s rows₀ i₀ rows i = 16 - i
+μ-loop s below rows₀ above₀ i₀ rows above i = i
+
+-- nothing is done yet: the rows past the last are zeros, and there are no points above the last row
+loop-holds : tie.Need-loop-holds Inv-loop μ-loop
+unfolding table span
+loop-holds c =
+    let tested = c .before .before .before in
+    let s = tested .before .args .s in
+    let yes : accepted s ≡ true = sym (tested .accepted .ensures) ∙ not-false (tested .accepted .result) (c .before .before .if1 .left) in
+    let none : 0 ≡ kOf s - c .sources .result = omega arith in (
+      yes,
+      shape s (subst⁻¹ T yes tt),
+      omega arith,
+      refl,
+      λ r h below.
+          getD-table 16 (λ i. table 16 (λ p. 0)) r [] below
+          ∙ table-equal 16 (λ p. 0) (λ j. entry s r j) (λ p _. sym (entry-row-outside s r p (omega arith))),
+      ap (λ (e : ℕ). table 16 (λ j. span (c .sources .result + s .scattered - 1) e j)) none,
+    )
+
+generator-row-requires : tie.Need-generator-row-requires Inv-loop μ-loop
+generator-row-requires c κs =
+    let at = c .before .before .loop in
+    let table-below = c .before .before .before .before in
+    let s = table-below .before .before .before .args .s in
+    let start : at .i + s .scattered - 1 ≡ at .i - 1 + s .scattered = omega arith in
+    let points : kOf s - at .i ≡ kOf s - (at .i - 1 + 1) = omega arith in (
+      at .inv .0,
+      omega arith,
+      ap (λ (l : List (List ℕ)). getD l (at .i - 1) []) (table-below .products-below .ensures)
+          ∙ getD-table 16 (λ i. table 16 (λ j. span 0 i j)) (at .i - 1) [] (omega arith),
+      at .inv .5 ∙ ap₂ (λ (a e : ℕ). table 16 (λ j. span a e j)) start points,
+    )
 
 loop-again : tie.Need-loop-again Inv-loop μ-loop
 loop-again c =
-    let at = c .before .before .loop in
-    let s = c .before .before .before .args .s in (
+    let at-row = c .before .before in
+    let at-loop = at-row .before .before .before in
+    let at = at-loop .loop in
+    let s = at-loop .before .before .before .before .before .args .s in
+    let i : ℕ = at .i - 1 in
+    let row = at-row .generator-row .result in (
+      at .inv .0,
+      at .inv .1,
       omega arith,
-      simp length-set (at .inv .1),
-      filled-more (λ r. table 16 (λ j. entry s r j)) [] (at .rows) (at .i) (c .generator-row .result) (omega arith)
-          (c .generator-row .ensures) (at .inv .2),
+      simp length-set (at .inv .3),
+      λ r h below.
+          ⊎-elim
+          (λ same.
+          subst (λ (q : ℕ). getD (set (at .rows) i row) q [] ≡ table 16 (λ j. entry s q j)) same
+          (getD-set-same (at .rows) i row [] (omega arith) ∙ at-row .generator-row .ensures))
+          (λ after. getD-set-other (at .rows) i r row [] (λ same. omega arith) ∙ at .inv .4 r (omega arith) below)
+          (eq-or-lt-of-le h),
+      c .with-point .ensures
+          ∙ table-equal 16 (λ j. getD (at .above) j 0 ⊠ (j ⊞ (i + s .scattered - 1))) (λ j. span (i + s .scattered - 1) (kOf s - i) j)
+          (λ j h.
+          ap (λ (x : ℕ). x ⊠ (j ⊞ (i + s .scattered - 1)))
+          (ap (λ (l : List ℕ). getD l j 0) (at .inv .5) ∙ getD-table 16 (λ j. span (at .i + s .scattered - 1) (kOf s - at .i) j) j 0 h)
+          ∙ span-before (s .scattered) (kOf s) (at .i) j (omega arith) (omega arith) (omega arith)),
     )
 
-returns : tie.Need-returns Inv-loop μ-loop
+returns-2 : tie.Need-returns-2 Inv-loop μ-loop
 unfolding generatorOf
-returns c =
+returns-2 c =
     let at = c .before .loop in
-    let s = c .before .before .args .s in
-    is-table 16 (λ r. table 16 (λ j. entry s r j)) [] (at .rows) (at .inv .1) (λ r h. at .inv .2 r (omega arith))
+    let s = c .before .before .before .before .before .before .args .s in
+    is-table 16 (λ r. table 16 (λ j. entry s r j)) [] (at .rows) (at .inv .3) (λ r h. at .inv .4 r (omega arith) h)
 
 pub generator-spec : {M : Type 1} → statement M
 generator-spec =
@@ -42,12 +104,23 @@ generator-spec =
     (tie.spec
     Inv-loop
     μ-loop
-    (λ c. (zero-le, refl, λ r h. absurd (not-suc-le-zero h)))
     (λ c κs. search needs)
-    (λ c. search needs)
+    (λ c κs. search needs)
+    (λ c. c .entry-rows .ensures)
+    (λ c κs. search needs)
+    (λ c κs. search needs)
+    loop-holds
+    (λ c. omega arith)
+    (λ c. omega arith)
+    (λ c. omega arith)
+    generator-row-requires
+    (λ c. omega arith)
+    (λ c. omega arith)
     (λ c. omega arith)
     (λ c. search needs)
-    (λ c. search needs)
-    (λ c. search needs)
+    (λ c. omega arith)
+    (λ c. omega arith)
+    (λ c κs. search needs)
+    (λ c. omega arith)
     loop-again
-    returns)
+    returns-2)

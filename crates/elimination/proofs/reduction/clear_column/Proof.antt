@@ -5,13 +5,13 @@ use mathlib.Core.Bool.{cond}
 use mathlib.Core.List.{List, []}
 use native.Mathlib.Nat.{not-suc-le-zero, le-refl}
 use native.Mathlib.Omega.{arith}
-use Prim.Native.Nat.{ℕ, _-_, _<_, _≤_, zero-le}
+use Prim.Native.Nat.{ℕ, _-_, _<_, _≤_}
 use denote.Ref.{now}
 use lib.Dec.{eqb}
 use lib.ListN.{length, getD, length-set}
 use Rattle.galois.specs.Byte.{_⊕_, _⊗_}
-use Rattle.code.specs.Table.{table}
-use Rattle.code.proofs.Tables.{is-table, filled-more, kept-more}
+use Rattle.galois.specs.Table.{table}
+use Rattle.galois.proofs.ByIndex.{is-table, filled-more, kept-more}
 use Rattle.elimination.specs.Elimination.{cell, scaledAt, cleared}
 use Rattle.elimination.proofs.Rewritten.{clearedRow, row-cleared}
 use Rattle.elimination.proofs.reduction.clear_column.Statement.{statement}
@@ -60,7 +60,7 @@ clear-column-spec =
     (λ c. omega arith)
     (λ c. omega arith)
     (λ c κs. search needs)
-    (λ c. (zero-le, c .before .before .pre .2, (λ i h. absurd (not-suc-le-zero h)), λ i h. refl))
+    (λ c. (omega arith, c .before .before .pre .2, (λ i h. absurd (not-suc-le-zero h)), λ i h. refl))
     (λ c. omega arith)
     (λ c. omega arith)
     (λ c κs. search needs)

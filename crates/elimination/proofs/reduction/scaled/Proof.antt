@@ -1,51 +1,28 @@
--- The loop fills the row from the front.
+-- Division by the entry at p is multiplication by 1 divided by it, and by 1 it changes nothing.
 use borrow.Author.Needs.{needs}
-use mathlib.Core.Path.{_≡_, refl}
-use native.Mathlib.Nat.{not-suc-le-zero}
-use native.Mathlib.Omega.{arith}
-use Prim.Native.Nat.{ℕ, _-_, _<_, _≤_, zero-le}
-use lib.ListN.{length, getD, length-set}
-use Rattle.galois.specs.Byte.{quotient}
-use Rattle.code.proofs.Tables.{is-table, filled-more}
+use mathlib.Core.Path.{ap, _∙_}
+use Prim.Native.Nat.{ℕ}
+use lib.ListN.{getD}
+use Rattle.galois.specs.Byte.{_⊗_}
+use Rattle.galois.specs.Table.{table}
+use Rattle.galois.proofs.ArrayBytes.{array-below}
+use Rattle.elimination.proofs.Rewritten.{row-divided, row-by-one}
 use Rattle.elimination.proofs.reduction.scaled.Statement.{statement}
 use Rattle.elimination.proofs.reduction.scaled.Tie as tie
 
-abbrev Inv-loop : tie.InvT-loop
-Inv-loop p row out₀ j₀ out j =
-    (j ≤ 16) × (length out ≡ 16) × ((i : ℕ) → i < j → getD out i 0 ≡ quotient (getD row i 0) (getD row p 0))
-
-abbrev μ-loop : tie.MeasureT-loop
-μ-loop p row out₀ j₀ out j = 16 - j
-
-loop-again : tie.Need-loop-again Inv-loop μ-loop
-loop-again c =
-    let at-loop = c .before .before in
-    let at = at-loop .loop in
-    let a = at-loop .before .args in (
-      omega arith,
-      simp length-set (at .inv .1),
-      filled-more (λ j. quotient (getD (a .t1) j 0) (getD (a .t1) (a .p) 0)) 0 (at .out) (at .j) (c .quotient .result .0) (omega arith)
-          (c .quotient .ensures) (at .inv .2),
-    )
-
-returns : tie.Need-returns Inv-loop μ-loop
+returns : tie.Need-returns
 returns c =
-    let at = c .before .loop in
-    let a = c .before .before .args in
-    is-table 16 (λ j. quotient (getD (a .t1) j 0) (getD (a .t1) (a .p) 0)) 0 (at .out) (at .inv .1) (λ i h. at .inv .2 i (omega arith))
+    let a = c .before .args in
+    row-by-one (a .t1) (getD (a .t1) (a .p) 0) (search needs) (array-below 16 (a .t1) _ (c .before .good .0)) (c .if1 .taken)
+
+returns-2 : tie.Need-returns-2
+returns-2 c =
+    let a = c .before .before .before .args in
+    c .row-times .ensures
+    ∙ ap (λ (y : ℕ). table 16 (λ j. y ⊗ getD (a .t1) j 0)) (c .before .quotient .ensures)
+    ∙ row-divided (a .t1) (getD (a .t1) (a .p) 0)
 
 pub scaled-spec : {M : Type 1} → statement M
 scaled-spec =
     tie.close
-    (tie.spec
-    Inv-loop
-    μ-loop
-    (λ c. (zero-le, refl, λ i h. absurd (not-suc-le-zero h)))
-    (λ c. omega arith)
-    (λ c. omega arith)
-    (λ c κs. search needs)
-    (λ c. omega arith)
-    (λ c. omega arith)
-    (λ c. omega arith)
-    loop-again
-    returns)
+    (tie.spec (λ c. search needs) returns (λ c. search needs) (λ c κs. search needs) (λ c κs. search needs) returns-2)

@@ -6,7 +6,7 @@ use Prim.Native.Nat.{ℕ, _-_, _<_, _≤_, zero-le}
 use denote.Ref.{now}
 use lib.ListN.{length, getD, replicate, length-set, length-replicate, getD-replicate}
 use lib.Seq.{ext-getD}
-use Rattle.code.proofs.Tables.{filled-more}
+use Rattle.galois.proofs.ByIndex.{filled-more}
 use Rattle.protocol.proofs.slices.clear.Statement.{statement}
 use Rattle.protocol.proofs.slices.clear.Tie as tie
 

@@ -9,7 +9,7 @@ use denote.Ref.{now}
 use mir.Val.{boolByte}
 use lib.Dec.{eqb}
 use lib.ListN.{length, getD, length-set}
-use Rattle.code.proofs.Tables.{is-table, filled-more}
+use Rattle.galois.proofs.ByIndex.{is-table, filled-more}
 use Rattle.receiver.proofs.rows.receive_zeros.Statement.{statement}
 use Rattle.receiver.proofs.rows.receive_zeros.Tie as tie
 

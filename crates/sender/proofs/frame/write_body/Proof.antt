@@ -1,91 +1,114 @@
--- The loop pastes one byte of the body a turn, after the header.
+-- The message is written after the header; then the loop writes one parity symbol of every lane a turn.
 use borrow.Author.Needs.{needs}
-use mathlib.Core.Path.{_≡_, refl, sym, ap, ap₂, _∙_}
-use mathlib.Core.List.{List, _++_, append-nil}
-use native.Mathlib.Nat.{mod-lt, div-lt-iff-lt-mul}
-use native.Mathlib.Numerals.{add-one}
+use borrow.Rule.Slice.PartMut.{mid-len}
+use mathlib.Core.Path.{_≡_, sym, ap, _∙_}
+use mathlib.Core.List.{List, _++_}
 use native.Mathlib.Omega.{arith}
-use Prim.Native.Nat.{ℕ, _+_, _-_, _/_, _<_, _≤_, zero-le}
+use Prim.Native.Nat.{ℕ, _+_, _-_, _*_, _<_, _≤_}
 use denote.Ref.{now}
-use lib.ListN.{length, getD, set, take, length-set, drop-of-length-le}
-use lib.Seq.{paste, paste-zero, paste-suc, take-all}
-use Rattle.code.specs.Settings.{nOf}
+use lib.ListN.{length, take}
+use Rattle.code.specs.Settings.{kOf, nOf}
 use Rattle.code.proofs.Shape.{Shape, shape}
-use Rattle.code.proofs.Tables.{getD-table}
 use Rattle.protocol.specs.Frame.{bodyOf}
-use Rattle.protocol.specs.Lengths.{bodyLen, frameLen}
-use Rattle.protocol.proofs.SentLengths.{length-body}
-use Rattle.sender.proofs.Places.{body-few}
+use Rattle.protocol.specs.Lengths.{frameLen}
+use Rattle.sender.proofs.Places.{body-few, message-fits, symbol-ends}
+use Rattle.sender.proofs.Bodies.{Written, written-message, written-more, written-all}
 use Rattle.sender.proofs.frame.write_body.Statement.{statement}
 use Rattle.sender.proofs.frame.write_body.Tie as tie
 
 abbrev Inv-loop : tie.InvT-loop
-Inv-loop frame₀ form rows message s due lanes body q₀ frame q =
-    (q ≤ bodyLen s) × (length frame ≡ length frame₀) × (frame ≡ paste frame₀ 14 (bodyOf s rows message due) q)
+Inv-loop frame₀ form rows message s due lanes p₀ frame p =
+    (kOf s ≤ p) × (p ≤ nOf s) × (length frame ≡ frameLen s) × Written s rows message due (take 14 frame₀) frame p
 
 abbrev μ-loop : tie.MeasureT-loop
-μ-loop frame₀ form rows message s due lanes body q₀ frame q = bodyLen s - q
+μ-loop frame₀ form rows message s due lanes p₀ frame p = nOf s - p
 
-abbrev start : tie.After-body-len Inv-loop μ-loop → tie.Start Inv-loop μ-loop
-start c = c .before .before .before .before .before
+abbrev start : tie.After-write-at Inv-loop μ-loop → tie.Start Inv-loop μ-loop
+start c = c .before .before .before .before .before .before
 
-shaped : (c : tie.After-body-len Inv-loop μ-loop) → Shape (start c .args .s)
+shaped : (c : tie.After-write-at Inv-loop μ-loop) → Shape (start c .args .s)
 shaped c = shape (start c .args .s) (start c .pre .0)
 
--- a frame's length
-long : (c : tie.After-body-len Inv-loop μ-loop) → length (now (start c .args .frame)) ≡ 14 + bodyLen (start c .args .s)
-unfolding frameLen
-long c = start c .pre .4
+-- the message is written
+abbrev sent : tie.After-sources Inv-loop μ-loop → tie.After-write-at Inv-loop μ-loop
+sent c = c .before .before .before
 
-inside : (c : tie.In-loop Inv-loop μ-loop) → c .before .loop .q < bodyLen (start (c .before .before) .args .s)
-inside c = omega (arith, c .before .before .body-len .ensures)
+-- the header stays, and the body is written up to symbol k
+message-sent : (c : tie.After-write-at Inv-loop μ-loop) → let a = start c .args in
+    let frame : List ℕ = c .write-at .last .0 in
+    (take 14 frame ≡ take 14 (now (a .frame))) × Written (a .s) (now (a .rows)) (now (a .message)) (a .due) (take 14 frame) frame (kOf (a .s))
+unfolding frameLen
+message-sent c =
+    let a = start c .args in
+    let pre = start c .pre in
+    written-message (a .s) (now (a .rows)) (now (a .message)) (a .due) (shaped c) (now (a .frame)) (c .write-at .last .0) (pre .3)
+    (omega (arith, pre .4)) (c .write-at .ensures)
+
+write-at-requires : tie.Need-write-at-requires Inv-loop μ-loop
+unfolding frameLen
+write-at-requires c κs =
+    let from = c .before .before .before .before .before in
+    omega (arith, message-fits (from .args .s) (shape (from .args .s) (from .pre .0)), from .pre .3, from .pre .4)
 
 loop-holds : tie.Need-loop-holds Inv-loop μ-loop
 loop-holds c =
-    let a = start c .args in
-    (zero-le, refl, paste-zero (now (a .frame)) 14 (bodyOf (a .s) (now (a .rows)) (now (a .message)) (a .due)))
+    let from = sent c in
+    let a = start from .args in
+    let h = shaped from in (
+      omega (arith, c .sources .ensures),
+      omega (arith, c .sources .ensures),
+      from .write-at .kept .0 ∙ start from .pre .4,
+      rw (c .sources .ensures) (message-sent from .1),
+    )
 
-sent-symbol-requires : tie.Need-sent-symbol-requires Inv-loop μ-loop
-unfolding bodyLen
-sent-symbol-requires c κs =
-    let at = c .before .before in
-    let h = shaped at in
-    let pre = start at .pre in
-    let q : ℕ = c .before .loop .q in
-    let few : q / start at .args .s .lanes < nOf (start at .args .s) = div-lt-iff-lt-mul (h .lanes-positive) .1 (inside c) in
-    (pre .0, pre .1, pre .2, pre .3, few, mod-lt q (h .lanes-positive))
+-- the place of symbol p
+within : (c : tie.Then1 Inv-loop μ-loop) → let at = c .before .before .loop in
+    let a = start (sent (c .before .before .before)) .args in
+    (at .p < nOf (a .s)) × (14 + at .p * a .s .lanes + a .s .lanes ≤ length (at .frame)) × (length (at .frame) ≤ 1038)
+unfolding frameLen
+within c =
+    let at = c .before .before .loop in
+    let from = sent (c .before .before .before) in
+    let a = start from .args in
+    let below : at .p < nOf (a .s) = omega (arith, c .before .symbols .ensures) in (
+      below,
+      omega (arith, symbol-ends (a .s) (shaped from) (at .p) below, at .inv .2),
+      omega (arith, body-few (a .s) (shaped from), at .inv .2),
+    )
+
+write-parity-requires : tie.Need-write-parity-requires Inv-loop μ-loop
+write-parity-requires c κs =
+    let at = c .before .before .before .loop in
+    let from = sent (c .before .before .before .before) in
+    let a = start from .args in
+    let pre = start from .pre in
+    let place : ℕ = 14 + at .p * a .s .lanes in
+    let long = mid-len place (place + a .s .lanes) (at .frame) (within (c .before) .1) in
+    (pre .0, pre .1, pre .2, omega (arith, long), at .inv .0, within (c .before) .0)
 
 loop-again : tie.Need-loop-again Inv-loop μ-loop
-unfolding bodyOf
 loop-again c =
-    let at-loop = c .before .before in
-    let at = at-loop .loop in
-    let a = start (at-loop .before) .args in
-    let body : List ℕ = bodyOf (a .s) (now (a .rows)) (now (a .message)) (a .due) in
-    let byte : c .sent-symbol .result ≡ getD body (at .q) 0 =
-    c .sent-symbol .ensures ∙ sym (getD-table (bodyLen (a .s)) _ (at .q) 0 (inside (c .before))) in (
-      omega (arith, inside (c .before)),
-      simp length-set (at .inv .1),
-      ap₂ (λ (l : List ℕ) (b : ℕ). set l (14 + at .q) b) (at .inv .2) byte
-          ∙ paste-suc (now (a .frame)) 14 body (at .q) 0
-          (omega (arith, inside (c .before), long (at-loop .before)))
-          (omega (arith, inside (c .before), length-body (a .s) (now (a .rows)) (now (a .message)) (a .due)))
-          ∙ ap (λ (k : ℕ). paste (now (a .frame)) 14 body k) (sym (add-one (at .q))),
+    let called = c .before .before in
+    let taken = called .before .before in
+    let at = taken .before .before .loop in
+    let from = sent (taken .before .before .before) in
+    let a = start from .args in (
+      omega arith,
+      omega (arith, within taken),
+      c .before .frame2 .given .1 ∙ at .inv .2,
+      written-more (a .s) (now (a .rows)) (now (a .message)) (a .due) (shaped from) (take 14 (from .write-at .last .0)) (at .frame)
+          (called .write-parity .last .0) (at .p) (at .inv .0) (within taken .0) (at .inv .2) (at .inv .3) (called .write-parity .ensures),
     )
 
 returns : tie.Need-returns Inv-loop μ-loop
 returns c =
-    let at-body = c .before .before in
-    let at = c .before .loop in
-    let a = start at-body .args in
-    let frame : List ℕ = now (a .frame) in
-    let body : List ℕ = bodyOf (a .s) (now (a .rows)) (now (a .message)) (a .due) in
-    let whole = length-body (a .s) (now (a .rows)) (now (a .message)) (a .due) in
-    let all : at .q ≡ bodyLen (a .s) = omega (arith, at-body .body-len .ensures) in
-    at .inv .2 ∙ ap (λ (k : ℕ). paste frame 14 body k) all
-    ∙ ap₂ (λ (l r : List ℕ). take 14 frame ++ l ++ r) (take-all (bodyLen (a .s)) body (omega arith))
-    (drop-of-length-le frame {i = 14 + bodyLen (a .s)} (omega (arith, long at-body)))
-    ∙ append-nil (take 14 frame ++ body)
+    let at = c .before .before .loop in
+    let from = sent (c .before .before .before) in
+    let a = start from .args in
+    let all : at .p ≡ nOf (a .s) = omega (arith, c .before .symbols .ensures) in
+    written-all (a .s) (now (a .rows)) (now (a .message)) (a .due) (shaped from) (take 14 (from .write-at .last .0)) (at .frame) (at .inv .2)
+    (rw all at (at .inv .3))
+    ∙ ap (λ (l : List ℕ). l ++ bodyOf (a .s) (now (a .rows)) (now (a .message)) (a .due)) (message-sent from .0)
 
 pub write-body-spec : {M : Type 1} → statement M
 write-body-spec =
@@ -94,15 +117,19 @@ write-body-spec =
     Inv-loop
     μ-loop
     (λ c. search needs)
+    write-at-requires
     (λ c κs. search needs)
     loop-holds
-    (λ c. let h = shaped (c .before .before) in omega arith)
-    (λ c. let h = shaped (c .before .before) in omega arith)
-    sent-symbol-requires
-    (λ c. let h = shaped (c .before .before .before) in omega (arith, inside (c .before), body-few _ h))
-    (λ c. omega (arith, inside (c .before), long (c .before .before .before)))
-    (λ c. let h = shaped (c .before .before .before) in omega (arith, inside (c .before), body-few _ h))
-    (λ c. omega (arith, inside (c .before)))
+    (λ c κs. search needs)
+    (λ c. omega (arith, within c))
+    (λ c. omega (arith, within c))
+    (λ c. omega (arith, within c))
+    (λ c. omega arith)
+    (λ c. omega arith)
+    (λ c. omega (arith, within c))
+    write-parity-requires
+    (λ c. let h = shaped (sent (c .before .before .before .before .before .before .before)) in omega arith)
+    (λ c. omega (arith, within (c .before .before .before .before)))
     loop-again
-    (λ c. c .before .loop .inv .1)
+    (λ c. c .before .before .loop .inv .2 ∙ sym (start (sent (c .before .before .before)) .pre .4))
     returns)

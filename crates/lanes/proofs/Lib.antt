@@ -1,0 +1,4 @@
+-- The laws that the functions' proofs cite.
+pub mod Shares
+pub mod Clashes
+pub mod Said

@@ -1,0 +1,2 @@
+-- What elimination says of all lanes.
+pub mod Lanes
