@@ -1,0 +1,22 @@
+-- The state is written where the call was taken, and the number is the answer's.
+use borrow.Author.Needs.{needs}
+use mathlib.Core.Path.{ap, _∙_}
+use mathlib.Core.Bool.{Bool}
+use denote.Ref.{now}
+use Rattle.layout.specs.State.{saved}
+use Rattle.layout.proofs.outcomes.save_answer.Statement.{statement}
+use Rattle.layout.proofs.outcomes.save_answer.Tie as tie
+
+returns : tie.Need-returns
+returns c =
+    let at-save = c .before .before .before in
+    let at-taken = at-save .before .before in
+    let a = at-taken .before .before .args in (
+      c .answer-number .ensures,
+      at-save .save .ensures ∙ ap (λ (t : Bool). saved t (a .end) (a .s) (a .due) (now (a .state))) (at-taken .answer-taken .ensures),
+    )
+
+pub save-answer-spec : {M : Type 1} → statement M
+save-answer-spec =
+    tie.close
+    (tie.spec (λ c κs. search needs) (λ c κs. search needs) (λ c κs. search needs) (λ c. search needs) returns)

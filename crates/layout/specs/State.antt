@@ -1,0 +1,71 @@
+-- The state that the static library's callers keep between calls, as 13 bytes.
+use mathlib.Core.Bool.{Bool, cond, _&&_}
+use mathlib.Core.List.{List, [], _∷_, _++_}
+use Prim.Native.Nat.{ℕ, _+_, _*_}
+use lib.Dec.{eqb, leb}
+use lib.ListN.{getD, length}
+use Rattle.code.specs.declared.settings.Settings.{Settings}
+use Rattle.code.specs.Settings.{accepted}
+use Rattle.protocol.specs.declared.Sender.{Sender}
+use Rattle.protocol.specs.declared.Receiver.{Receiver}
+use Rattle.protocol.specs.Lengths.{lastSlot}
+use Rattle.protocol.specs.Frame.{five, slotBytes}
+use Rattle.protocol.specs.Causes.{agree}
+
+-- ---- what is written
+
+-- the letter of the end that the state is of: `S` for a sender
+abbrev pub senderEnd : ℕ
+senderEnd = 0x53
+
+-- and `R` for a receiver
+abbrev pub receiverEnd : ℕ
+receiverEnd = 0x52
+
+-- the mark of a state: `TOB` and the end's letter
+unfoldable pub markOf : ℕ → List ℕ
+markOf end = 0x54 ∷ 0x4f ∷ 0x42 ∷ end ∷ []
+
+-- a state: its mark, W, T, B, N and L, and the slot due, high byte first
+unfoldable pub stateBytes : ℕ → Settings → ℕ → List ℕ
+stateBytes end s due = markOf end ++ five s ++ slotBytes due
+
+-- a state's length
+abbrev pub stateLen : ℕ
+stateLen = 13
+
+-- the state after a call: written where the call was taken, else as it was
+abbrev pub saved : Bool → ℕ → Settings → ℕ → List ℕ → List ℕ
+saved taken end s due state = cond taken (stateBytes end s due) state
+
+-- ---- what is read
+
+-- W, T, B, N and L, from the place `start`
+unfoldable pub settingsAt : ℕ → List ℕ → Settings
+settingsAt start bytes = record {
+  window = getD bytes start 0;
+  delay = getD bytes (start + 1) 0;
+  burst = getD bytes (start + 2) 0;
+  scattered = getD bytes (start + 3) 0;
+  lanes = getD bytes (start + 4) 0;
+}
+
+-- a slot in 32 bits, high byte first, from the place `start`
+unfoldable pub slotAt : ℕ → List ℕ → ℕ
+slotAt start bytes =
+    ((getD bytes start 0 * 256 + getD bytes (start + 1) 0) * 256 + getD bytes (start + 2) 0) * 256 + getD bytes (start + 3) 0
+
+-- the sender that a state keeps
+unfoldable pub senderIn : List ℕ → Sender
+senderIn state = record { settings = settingsAt 4 state; due = slotAt 9 state }
+
+-- the receiver that a state keeps
+unfoldable pub receiverIn : List ℕ → Receiver
+receiverIn state = record { settings = settingsAt 4 state; due = slotAt 9 state }
+
+-- a state of this end, as an opening or a later call writes it: 13 bytes, the mark, settings that are accepted, and a slot due that is
+-- at most the one after the last
+unfoldable pub kept : ℕ → List ℕ → Bool
+kept end state =
+    eqb (length state) stateLen && agree 4 state (markOf end) && accepted (settingsAt 4 state)
+    && leb (slotAt 9 state) (lastSlot + 1)

@@ -1,0 +1,68 @@
+// The number of each reply, and whether the call was taken.
+use protocol::Answer;
+use protocol::Cause;
+use protocol::Reply;
+ghost use mathlib.Core.Path.{_≡_};
+ghost use Rattle.protocol.specs.Causes.{numberOf};
+ghost use Rattle.protocol.specs.Claim.{accepts};
+ghost use Rattle.layout.specs.Numbers.{answerNumber, replyNumber, taken};
+
+// Document 01's number for a cause.
+fn number_of(c: Cause) -> u32
+    ensures { λ r. ⌜ r ≡ numberOf c ⌝ }
+{
+    match c {
+        Cause::BadSettings => 1,
+        Cause::BadLength => 2,
+        Cause::PastLastSlot => 3,
+        Cause::OtherMark => 4,
+        Cause::OtherSettings => 5,
+        Cause::OtherSlot => 6,
+    }
+}
+
+// The number of what an opening or a send answers.
+pub(crate) fn answer_number(answer: Answer) -> u32
+    ensures { λ r. ⌜ r ≡ answerNumber answer ⌝ }
+{
+    match answer {
+        Answer::Accepted => 0,
+        Answer::Refused(c) => number_of(c),
+    }
+}
+
+// The number of what a report answers.
+pub(crate) fn reply_number(reply: Reply) -> u32
+    ensures { λ r. ⌜ r ≡ replyNumber reply ⌝ }
+{
+    match reply {
+        Reply::Refused(c) => number_of(c),
+        Reply::NoneYet => 16,
+        Reply::Whole => 17,
+        Reply::Lost => 18,
+        Reply::Clash => 19,
+    }
+}
+
+// Whether an opening or a send was accepted.
+pub(crate) fn answer_taken(answer: Answer) -> bool
+    ensures { λ r. ⌜ r ≡ taken answer ⌝ }
+{
+    match answer {
+        Answer::Accepted => true,
+        Answer::Refused(c) => false,
+    }
+}
+
+// Whether a report was accepted.
+pub(crate) fn reply_taken(reply: Reply) -> bool
+    ensures { λ r. ⌜ r ≡ accepts reply ⌝ }
+{
+    match reply {
+        Reply::Refused(c) => false,
+        Reply::NoneYet => true,
+        Reply::Whole => true,
+        Reply::Lost => true,
+        Reply::Clash => true,
+    }
+}

@@ -1,0 +1,4 @@
+-- The laws of the calls, and what the proofs of the functions cite.
+pub mod Outcomes
+pub mod Refused
+pub mod Chains

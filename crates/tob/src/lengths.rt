@@ -1,0 +1,67 @@
+// How long each lent buffer is, for settings of five bytes: W, T, B, N and L. 0 where they are not accepted.
+use code::Settings;
+use layout::settings_at;
+use protocol::frame_len;
+use protocol::message_len;
+use protocol::receiver_len;
+use protocol::sender_len;
+ghost use mathlib.Core.Bool.{cond};
+ghost use mathlib.Core.Path.{_≡_};
+ghost use Rattle.code.specs.Settings.{accepted};
+ghost use Rattle.protocol.specs.Lengths.{messageLen, frameLen, senderLen, receiverLen};
+ghost use Rattle.layout.specs.State.{stateLen};
+ghost use Rattle.tob.specs.Calls.{lengthFor};
+
+// A state.
+#[no_mangle]
+pub extern "C" fn tob_state_len() -> usize
+    ensures { λ r. ⌜ r ≡ stateLen ⌝ }
+{
+    13
+}
+
+// A length, where the settings are accepted.
+fn or_zero(s: Settings, len: usize) -> usize
+    ensures { λ r. ⌜ r ≡ cond (accepted s) len 0 ⌝ }
+{
+    if !s.accepted() {
+        return 0;
+    }
+    len
+}
+
+// A message.
+#[no_mangle]
+pub extern "C" fn tob_message_len(settings: &[u8; 5]) -> usize
+    ensures { λ r. ⌜ r ≡ lengthFor messageLen (now (settings .entry)) ⌝ }
+{
+    let s = settings_at(settings, 0);
+    or_zero(s, message_len(s))
+}
+
+// A frame.
+#[no_mangle]
+pub extern "C" fn tob_frame_len(settings: &[u8; 5]) -> usize
+    ensures { λ r. ⌜ r ≡ lengthFor frameLen (now (settings .entry)) ⌝ }
+{
+    let s = settings_at(settings, 0);
+    or_zero(s, frame_len(s))
+}
+
+// A sender's rows.
+#[no_mangle]
+pub extern "C" fn tob_sender_len(settings: &[u8; 5]) -> usize
+    ensures { λ r. ⌜ r ≡ lengthFor senderLen (now (settings .entry)) ⌝ }
+{
+    let s = settings_at(settings, 0);
+    or_zero(s, sender_len(s))
+}
+
+// A receiver's rows.
+#[no_mangle]
+pub extern "C" fn tob_receiver_len(settings: &[u8; 5]) -> usize
+    ensures { λ r. ⌜ r ≡ lengthFor receiverLen (now (settings .entry)) ⌝ }
+{
+    let s = settings_at(settings, 0);
+    or_zero(s, receiver_len(s))
+}

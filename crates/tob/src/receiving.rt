@@ -1,0 +1,39 @@
+// The receiver's calls: the reports of frames and of losses.
+use layout::is_kept;
+use layout::receiver_in;
+use layout::save_reply;
+ghost use mathlib.Core.Path.{_≡_};
+ghost use Rattle.tob.specs.Calls.{heardBytes, lostBytes};
+
+// The report of a frame, for the slot due.
+#[no_mangle]
+pub extern "C" fn tob_heard(
+    state: &mut [u8],
+    rows: &mut [u8],
+    frame: &[u8],
+    message: &mut [u8],
+) -> u32
+    ensures { λ r. ⌜ record { reply = r; state = now (state .exit); rows = now (rows .exit); message = now (message .exit) } ≡ heardBytes (now (state .entry)) (now (rows .entry)) (now (frame .entry)) (now (message .entry)) ⌝ }
+{
+    if !is_kept(0x52, state) {
+        return 64;
+    }
+    let r = receiver::heard(receiver_in(state), rows, frame, message);
+    let reply = r.reply;
+    let x = r.receiver;
+    save_reply(reply, x.settings, x.due, state)
+}
+
+// The report that the slot due was lost.
+#[no_mangle]
+pub extern "C" fn tob_lost(state: &mut [u8], rows: &mut [u8], message: &mut [u8]) -> u32
+    ensures { λ r. ⌜ record { reply = r; state = now (state .exit); rows = now (rows .exit); message = now (message .exit) } ≡ lostBytes (now (state .entry)) (now (rows .entry)) (now (message .entry)) ⌝ }
+{
+    if !is_kept(0x52, state) {
+        return 64;
+    }
+    let r = receiver::loss(receiver_in(state), rows, message);
+    let reply = r.reply;
+    let x = r.receiver;
+    save_reply(reply, x.settings, x.due, state)
+}

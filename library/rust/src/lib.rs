@@ -1,0 +1,117 @@
+//! The static library's calls for Rust: `../tob.h` says what each does, what it answers, and how long its buffers are.
+//! Each takes any slices at all. References keep the buffers of a call apart, as the library asks.
+
+mod c {
+    extern "C" {
+        pub fn tob_state_len() -> usize;
+        pub fn tob_message_len(settings: *const u8) -> usize;
+        pub fn tob_frame_len(settings: *const u8) -> usize;
+        pub fn tob_sender_len(settings: *const u8) -> usize;
+        pub fn tob_receiver_len(settings: *const u8) -> usize;
+        pub fn tob_open_sender(settings: *const u8, state: *mut u8, state_len: usize, rows: *mut u8, rows_len: usize) -> u32;
+        pub fn tob_open_receiver(settings: *const u8, state: *mut u8, state_len: usize, rows: *mut u8, rows_len: usize) -> u32;
+        pub fn tob_send(
+            state: *mut u8,
+            state_len: usize,
+            rows: *mut u8,
+            rows_len: usize,
+            message: *const u8,
+            message_len: usize,
+            frame: *mut u8,
+            frame_len: usize,
+        ) -> u32;
+        pub fn tob_heard(
+            state: *mut u8,
+            state_len: usize,
+            rows: *mut u8,
+            rows_len: usize,
+            frame: *const u8,
+            frame_len: usize,
+            message: *mut u8,
+            message_len: usize,
+        ) -> u32;
+        pub fn tob_lost(
+            state: *mut u8,
+            state_len: usize,
+            rows: *mut u8,
+            rows_len: usize,
+            message: *mut u8,
+            message_len: usize,
+        ) -> u32;
+    }
+}
+
+/// The settings: W, T, B, N, L.
+pub type Settings = [u8; 5];
+
+/// The length of a state.
+pub fn state_len() -> usize {
+    unsafe { c::tob_state_len() }
+}
+
+/// The length of a message, or 0 for settings that are not accepted.
+pub fn message_len(settings: &Settings) -> usize {
+    unsafe { c::tob_message_len(settings.as_ptr()) }
+}
+
+/// The length of a frame, or 0 for settings that are not accepted.
+pub fn frame_len(settings: &Settings) -> usize {
+    unsafe { c::tob_frame_len(settings.as_ptr()) }
+}
+
+/// The length of a sender's rows, or 0 for settings that are not accepted.
+pub fn sender_len(settings: &Settings) -> usize {
+    unsafe { c::tob_sender_len(settings.as_ptr()) }
+}
+
+/// The length of a receiver's rows, or 0 for settings that are not accepted.
+pub fn receiver_len(settings: &Settings) -> usize {
+    unsafe { c::tob_receiver_len(settings.as_ptr()) }
+}
+
+/// Opens a sender.
+pub fn open_sender(settings: &Settings, state: &mut [u8], rows: &mut [u8]) -> u32 {
+    unsafe { c::tob_open_sender(settings.as_ptr(), state.as_mut_ptr(), state.len(), rows.as_mut_ptr(), rows.len()) }
+}
+
+/// Opens a receiver.
+pub fn open_receiver(settings: &Settings, state: &mut [u8], rows: &mut [u8]) -> u32 {
+    unsafe { c::tob_open_receiver(settings.as_ptr(), state.as_mut_ptr(), state.len(), rows.as_mut_ptr(), rows.len()) }
+}
+
+/// Sends a message in the slot due.
+pub fn send(state: &mut [u8], rows: &mut [u8], message: &[u8], frame: &mut [u8]) -> u32 {
+    unsafe {
+        c::tob_send(
+            state.as_mut_ptr(),
+            state.len(),
+            rows.as_mut_ptr(),
+            rows.len(),
+            message.as_ptr(),
+            message.len(),
+            frame.as_mut_ptr(),
+            frame.len(),
+        )
+    }
+}
+
+/// Reports the frame that was heard in the slot due.
+pub fn heard(state: &mut [u8], rows: &mut [u8], frame: &[u8], message: &mut [u8]) -> u32 {
+    unsafe {
+        c::tob_heard(
+            state.as_mut_ptr(),
+            state.len(),
+            rows.as_mut_ptr(),
+            rows.len(),
+            frame.as_ptr(),
+            frame.len(),
+            message.as_mut_ptr(),
+            message.len(),
+        )
+    }
+}
+
+/// Reports that the slot due was lost.
+pub fn lost(state: &mut [u8], rows: &mut [u8], message: &mut [u8]) -> u32 {
+    unsafe { c::tob_lost(state.as_mut_ptr(), state.len(), rows.as_mut_ptr(), rows.len(), message.as_mut_ptr(), message.len()) }
+}
