@@ -1,0 +1,104 @@
+//! The five calls with the things that they are lent, and the library's side of each.
+
+use crate::lent::Lent;
+
+#[derive(Clone, Copy, Debug, PartialEq, Eq, PartialOrd, Ord)]
+pub enum Kind {
+    OpenSender,
+    OpenReceiver,
+    Send,
+    Heard,
+    Lost,
+}
+
+impl Kind {
+    pub const ALL: [Kind; 5] =
+        [Kind::OpenSender, Kind::OpenReceiver, Kind::Send, Kind::Heard, Kind::Lost];
+
+    pub fn name(self) -> &'static str {
+        match self {
+            Kind::OpenSender => "open_sender",
+            Kind::OpenReceiver => "open_receiver",
+            Kind::Send => "send",
+            Kind::Heard => "heard",
+            Kind::Lost => "lost",
+        }
+    }
+
+    /// The names of the things lent, in the order of the library's arguments.
+    pub fn things(self) -> &'static [&'static str] {
+        match self {
+            Kind::OpenSender | Kind::OpenReceiver => &["settings", "state", "rows"],
+            Kind::Send => &["state", "rows", "message", "frame"],
+            Kind::Heard => &["state", "rows", "frame", "message"],
+            Kind::Lost => &["state", "rows", "message"],
+        }
+    }
+
+    pub fn opens(self) -> bool {
+        matches!(self, Kind::OpenSender | Kind::OpenReceiver)
+    }
+}
+
+/// A call, with the bytes of each thing as it is lent and, afterwards, as it was left.
+#[derive(Clone)]
+pub struct Call {
+    pub kind: Kind,
+    pub things: Vec<Vec<u8>>,
+}
+
+impl Call {
+    pub fn open(kind: Kind, settings: [u8; 5], state: Vec<u8>, rows: Vec<u8>) -> Call {
+        Call { kind, things: vec![settings.to_vec(), state, rows] }
+    }
+
+    pub fn send(state: Vec<u8>, rows: Vec<u8>, message: Vec<u8>, frame: Vec<u8>) -> Call {
+        Call { kind: Kind::Send, things: vec![state, rows, message, frame] }
+    }
+
+    pub fn heard(state: Vec<u8>, rows: Vec<u8>, frame: Vec<u8>, message: Vec<u8>) -> Call {
+        Call { kind: Kind::Heard, things: vec![state, rows, frame, message] }
+    }
+
+    pub fn lost(state: Vec<u8>, rows: Vec<u8>, message: Vec<u8>) -> Call {
+        Call { kind: Kind::Lost, things: vec![state, rows, message] }
+    }
+
+    /// The thing of this name, if the call is lent one.
+    pub fn place(&self, name: &str) -> Option<usize> {
+        self.kind.things().iter().position(|thing| *thing == name)
+    }
+
+    /// The thing of a name that the call has.
+    pub fn thing(&mut self, name: &str) -> &mut Vec<u8> {
+        let place = self.place(name).expect("a thing of this call");
+        &mut self.things[place]
+    }
+
+    /// Takes the thing out, when the call is over.
+    pub fn take(&mut self, name: &str) -> Vec<u8> {
+        std::mem::take(self.thing(name))
+    }
+}
+
+/// The library's answer; what it writes is in the things afterwards.
+pub fn by_library(kind: Kind, lent: &mut [Lent]) -> u32 {
+    match (kind, lent) {
+        (Kind::OpenSender, [settings, state, rows]) => {
+            tob::open_sender(settings.settings(), state.bytes(), rows.bytes())
+        }
+        (Kind::OpenReceiver, [settings, state, rows]) => {
+            tob::open_receiver(settings.settings(), state.bytes(), rows.bytes())
+        }
+        (Kind::Send, [state, rows, message, frame]) => {
+            tob::send(state.bytes(), rows.bytes(), message.bytes(), frame.bytes())
+        }
+        (Kind::Heard, [state, rows, frame, message]) => {
+            tob::heard(state.bytes(), rows.bytes(), frame.bytes(), message.bytes())
+        }
+        (Kind::Lost, [state, rows, message]) => {
+            tob::lost(state.bytes(), rows.bytes(), message.bytes())
+        }
+        _ => unreachable!("a call is lent the things of its kind"),
+    }
+}

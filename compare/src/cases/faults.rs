@@ -1,0 +1,132 @@
+//! Faults of a call: what is lent is changed so that the call is to be refused.
+//! (Now and then it is accepted all the same: both sides must then agree on that.)
+
+use reference::frame::HEADER;
+use reference::state::State;
+
+use super::bounds;
+use crate::call::{Call, Kind};
+use crate::draw::Draws;
+use crate::model::{RECEIVER, SENDER};
+
+type Fault = fn(&mut Draws, &mut Call);
+
+/// Those of calls that start from a state.
+const OF_STATE: [Fault; 6] = [length, mark, other_kind, state_byte, settings, due];
+const OF_FRAME: [Fault; 4] = [frame_mark, frame_settings, frame_slot, frame_header];
+
+/// The call with one to three faults.
+pub fn faulty(draws: &mut Draws, call: &Call) -> Call {
+    let mut call = call.clone();
+    let frames: &[Fault] = if call.kind == Kind::Heard { &OF_FRAME } else { &[] };
+    let lengths: &[Fault] = &[wrong_length, wrong_length, due, at_end];
+    let faults = [&OF_STATE[..], frames, frames, lengths].concat();
+    for _ in 0..draws.one_of(&[1, 1, 1, 2, 2, 3]) {
+        draws.one_of(&faults)(draws, &mut call);
+    }
+    call
+}
+
+/// A length that is not this one.
+pub fn other_length(draws: &mut Draws, exact: usize) -> usize {
+    let any = draws.below(exact + 20);
+    let shorter = exact.saturating_sub(1);
+    let other = draws.one_of(&[0, shorter, exact + 1, exact / 2, 2 * exact, exact + HEADER, any]);
+    if other == exact { exact + 1 } else { other }
+}
+
+fn resize(draws: &mut Draws, thing: &mut Vec<u8>) {
+    let other = other_length(draws, thing.len());
+    thing.truncate(other);
+    let more = draws.bytes(other - thing.len());
+    thing.extend(more);
+}
+
+/// The state has another length.
+fn length(draws: &mut Draws, call: &mut Call) {
+    resize(draws, call.thing("state"));
+}
+
+/// One of the lent things other than the state has another length.
+fn wrong_length(draws: &mut Draws, call: &mut Call) {
+    let place = 1 + draws.below(call.things.len() - 1);
+    resize(draws, &mut call.things[place]);
+}
+
+/// Changes one byte of a thing, between these places, if it is long enough.
+fn change(draws: &mut Draws, thing: &mut [u8], from: usize, to: usize) {
+    let place = from + draws.below(to - from);
+    if let Some(byte) = thing.get_mut(place) {
+        draws.change(byte);
+    }
+}
+
+fn mark(draws: &mut Draws, call: &mut Call) {
+    change(draws, call.thing("state"), 0, 4);
+}
+
+/// The state is one of the other end.
+fn other_kind(_: &mut Draws, call: &mut Call) {
+    let mark = if call.kind == Kind::Send { RECEIVER } else { SENDER };
+    if let Some(start) = call.thing("state").get_mut(..4) {
+        start.copy_from_slice(&mark);
+    }
+}
+
+fn state_byte(draws: &mut Draws, call: &mut Call) {
+    change(draws, call.thing("state"), 0, 13);
+}
+
+/// The state's settings become others, which are seldom accepted.
+fn settings(draws: &mut Draws, call: &mut Call) {
+    let others = bounds::any(draws);
+    let place = draws.below(5);
+    if let Some(settings) = call.thing("state").get_mut(4..9) {
+        settings[place] = others[place];
+    }
+}
+
+/// The state's slot due is above the end.
+fn due(draws: &mut Draws, call: &mut Call) {
+    let far = draws.next() as u32 % (u32::MAX - State::END) + 1;
+    let above = draws.one_of(&[1, 2, far, u32::MAX - State::END]);
+    set_due(call, State::END + above);
+}
+
+/// The state's slot due is the end.
+fn at_end(_: &mut Draws, call: &mut Call) {
+    set_due(call, State::END);
+}
+
+fn set_due(call: &mut Call, due: u32) {
+    if let Some(bytes) = call.thing("state").get_mut(9..13) {
+        bytes.copy_from_slice(&due.to_be_bytes());
+    }
+}
+
+fn frame_mark(draws: &mut Draws, call: &mut Call) {
+    change(draws, call.thing("frame"), 0, 5);
+}
+
+fn frame_settings(draws: &mut Draws, call: &mut Call) {
+    change(draws, call.thing("frame"), 5, 10);
+}
+
+/// Another slot: one before, one behind, or with one byte changed.
+fn frame_slot(draws: &mut Draws, call: &mut Call) {
+    let step = draws.one_of(&[1, u32::MAX, 0]);
+    let frame = call.thing("frame");
+    if let (Some(Ok(slot)), false) = (frame.get(10..14).map(TryInto::try_into), step == 0) {
+        let slot = u32::from_be_bytes(slot).wrapping_add(step);
+        frame[10..14].copy_from_slice(&slot.to_be_bytes());
+    } else {
+        change(draws, frame, 10, 14);
+    }
+}
+
+/// Any byte of the header, two times.
+fn frame_header(draws: &mut Draws, call: &mut Call) {
+    for _ in 0..2 {
+        change(draws, call.thing("frame"), 0, HEADER);
+    }
+}

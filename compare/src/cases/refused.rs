@@ -1,0 +1,44 @@
+//! Calls with faults of all kinds, for every code.
+
+use reference::frame;
+use reference::settings::{every_code, Settings};
+use reference::state::State;
+
+use super::faults::faulty;
+use super::rows::{due, lanes};
+use crate::call::Call;
+use crate::comparison::{Comparison, Difference};
+use crate::draw::Draws;
+use crate::model::{lengths, state_bytes, RECEIVER, SENDER};
+
+/// Faulty calls of each kind in a case.
+const EACH: usize = 150;
+
+pub fn run(comparison: &mut Comparison) -> Result<(), Difference> {
+    for code in every_code() {
+        let mut draws = comparison.case("refused calls");
+        let window = super::window(&mut draws, &code);
+        let settings = Settings { window, lanes: lanes(&mut draws, &code), ..code };
+        let due = due(&mut draws, &settings);
+        for call in calls(&mut draws, State { settings, due }) {
+            for _ in 0..EACH {
+                comparison.call(&mut faulty(&mut draws, &call))?;
+            }
+        }
+    }
+    Ok(())
+}
+
+/// A send, a frame report and a loss report, without a fault, over any bytes.
+fn calls(draws: &mut Draws, state: State) -> [Call; 3] {
+    let [message, frame, sender, receiver] = lengths(&state.settings);
+    let body = draws.bytes(frame - frame::HEADER);
+    let heard = frame::of(&state, &body);
+    let (s, r) = (state_bytes(SENDER, &state), state_bytes(RECEIVER, &state));
+    let mut bytes = |count| draws.bytes(count);
+    [
+        Call::send(s, bytes(sender), bytes(message), bytes(frame)),
+        Call::heard(r.clone(), bytes(receiver), heard, bytes(message)),
+        Call::lost(r, bytes(receiver), bytes(message)),
+    ]
+}

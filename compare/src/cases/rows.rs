@@ -1,0 +1,114 @@
+//! Rows handed in: calls that start from a state written by hand, anywhere in the range of slots.
+//! The sender's rows are any bytes; the receiver's are any, or a true history with losses and damage.
+
+use reference::frame::HEADER;
+use reference::receiver::row_count;
+use reference::settings::{every_code, Settings};
+use reference::state::State;
+
+use super::history::{Change, History};
+use crate::call::Call;
+use crate::comparison::{Comparison, Difference};
+use crate::draw::Draws;
+use crate::model::{lengths, state_bytes, RECEIVER, SENDER};
+
+/// Cases with few lanes for each code; one more has 16 lanes, and one 64.
+const EACH: usize = 8;
+/// Slots of a case with few lanes.
+const SLOTS: usize = 4;
+
+/// The changes of the receiver's rows, by how often they are made.
+const CHANGES: [Change; 8] = [
+    Change::True,
+    Change::Losses,
+    Change::Losses,
+    Change::Losses,
+    Change::Losses,
+    Change::Damage,
+    Change::AnyBodies,
+    Change::AnyBytes,
+];
+
+pub fn run(comparison: &mut Comparison) -> Result<(), Difference> {
+    for code in every_code() {
+        for case in 0..EACH + 2 {
+            let mut draws = comparison.case("rows handed in");
+            let window = super::window(&mut draws, &code);
+            let (lanes, slots) = match case {
+                EACH => (16, 3),
+                case if case > EACH => (64, 2),
+                _ => (lanes(&mut draws, &code), SLOTS),
+            };
+            let settings = Settings { window, lanes, ..code };
+            let due = due(&mut draws, &settings);
+            sends(comparison, &mut draws, State { settings, due }, slots)?;
+            reports(comparison, &mut draws, State { settings, due }, slots)?;
+        }
+    }
+    Ok(())
+}
+
+/// Few lanes, and seldom many where the code is large.
+pub fn lanes(draws: &mut Draws, code: &Settings) -> u8 {
+    let many = draws.below(code.k() * code.k()) == 0;
+    let any = draws.below(if many { 64 } else { 8 }) as u8 + 1;
+    draws.one_of(&[1, 2, 3, 3, any])
+}
+
+/// A slot due near 0, near k + T, near the end, or anywhere.
+pub fn due(draws: &mut Draws, settings: &Settings) -> u32 {
+    let delay = u32::from(settings.delay);
+    let low = draws.below(3 * row_count(settings)) as u32;
+    let near_end = State::END - 1 - draws.below(3) as u32;
+    let near_half = (1 << 31) - draws.below(3) as u32;
+    let any = (draws.next() % u64::from(State::END)) as u32;
+    draws.one_of(&[delay - 1, delay, delay + 1, low, low, near_end, near_end, near_half, any])
+}
+
+/// Sends over any rows, one after the other.
+fn sends(
+    comparison: &mut Comparison,
+    draws: &mut Draws,
+    state: State,
+    slots: usize,
+) -> Result<(), Difference> {
+    let [message, frame, rows, _] = lengths(&state.settings);
+    let mut state = state_bytes(SENDER, &state);
+    let mut rows = draws.bytes(rows);
+    for _ in 0..slots {
+        let mut call = Call::send(state, rows, draws.bytes(message), draws.bytes(frame));
+        comparison.call(&mut call)?;
+        (state, rows) = (call.take("state"), call.take("rows"));
+    }
+    Ok(())
+}
+
+/// Reports over a history with some change, one after the other.
+fn reports(
+    comparison: &mut Comparison,
+    draws: &mut Draws,
+    start: State,
+    slots: usize,
+) -> Result<(), Difference> {
+    let settings = start.settings;
+    let history = History::drawn(draws, settings, start.due, slots);
+    let change = draws.one_of(&CHANGES);
+    let mut rows = history.changed_rows(draws, change);
+    let mut state = state_bytes(RECEIVER, &start);
+    for step in 0..slots as u32 {
+        let buffer = draws.bytes(lengths(&settings)[0]);
+        let mut call = if draws.once_in(2) {
+            let mut frame = history.frame(start.due + step);
+            if draws.once_in(8) {
+                let place = HEADER + draws.below(frame.len() - HEADER);
+                draws.change(&mut frame[place]);
+            }
+            Call::heard(state, rows, frame, buffer)
+        } else {
+            Call::lost(state, rows, buffer)
+        };
+        comparison.call(&mut call)?;
+        (state, rows) = (call.take("state"), call.take("rows"));
+    }
+    Ok(())
+}

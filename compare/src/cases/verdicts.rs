@@ -1,0 +1,46 @@
+//! For every code, rows for which each reply of a report is due: a frame report and a loss report each.
+
+use reference::settings::{every_code, Settings};
+use reference::state::State;
+
+use super::history::{Change, History};
+use crate::call::Call;
+use crate::comparison::{Comparison, Difference};
+use crate::draw::Draws;
+use crate::model::{lengths, state_bytes, RECEIVER};
+
+/// Only for a slot due below T is the reply "none yet"; the others are mostly whole, lost and clash.
+const CHANGES: [Change; 4] = [Change::True, Change::AllLost, Change::OnlyBodies, Change::Damage];
+
+pub fn run(comparison: &mut Comparison) -> Result<(), Difference> {
+    for code in every_code() {
+        let mut draws = comparison.case("verdicts");
+        let lanes = draws.one_of(&[1, 2, 3]);
+        let settings = Settings { window: super::window(&mut draws, &code), lanes, ..code };
+        let below = draws.below(settings.t()) as u32;
+        let above = super::rows::due(&mut draws, &settings).max(u32::from(code.delay));
+        for due in [below, above] {
+            for change in CHANGES {
+                both(comparison, &mut draws, State { settings, due }, change)?;
+            }
+        }
+    }
+    Ok(())
+}
+
+/// The two reports of the slot due, over the same rows.
+fn both(
+    comparison: &mut Comparison,
+    draws: &mut Draws,
+    state: State,
+    change: Change,
+) -> Result<(), Difference> {
+    let history = History::drawn(draws, state.settings, state.due, 1);
+    let rows = history.changed_rows(draws, change);
+    let buffer = draws.bytes(lengths(&state.settings)[0]);
+    let frame = history.frame(state.due);
+    let state = state_bytes(RECEIVER, &state);
+    comparison.call(&mut Call::lost(state.clone(), rows.clone(), buffer.clone()))?;
+    comparison.call(&mut Call::heard(state, rows, frame, buffer))?;
+    Ok(())
+}

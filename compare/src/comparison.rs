@@ -1,0 +1,113 @@
+//! One call on both sides: reply, state and every lent byte must be alike.
+
+use std::hint::black_box;
+
+use reference::settings::Settings;
+
+use crate::call::{by_library, Call};
+use crate::draw::Draws;
+use crate::lent::Lent;
+use crate::model::{by_reference, lengths, settings_of};
+use crate::report::Met;
+
+/// Why the comparison ended.
+pub type Difference = String;
+
+pub struct Comparison {
+    seed: u64,
+    part: &'static str,
+    /// Cases count from 0 through all parts, calls from 0 in each case.
+    cases: usize,
+    calls: usize,
+    guards: Draws,
+    pub met: Met,
+}
+
+impl Comparison {
+    pub fn new(seed: u64) -> Comparison {
+        let guards = Draws::of_case(seed, usize::MAX);
+        Comparison { seed, part: "", cases: 0, calls: 0, guards, met: Met::default() }
+    }
+
+    /// Starts the next case, with numbers of its own.
+    pub fn case(&mut self, part: &'static str) -> Draws {
+        let draws = Draws::of_case(self.seed, self.cases);
+        self.part = part;
+        self.cases += 1;
+        self.calls = 0;
+        draws
+    }
+
+    pub fn cases(&self) -> usize {
+        self.cases
+    }
+
+    /// Makes the call on both sides. The things are then as both left them.
+    pub fn call(&mut self, call: &mut Call) -> Result<u32, Difference> {
+        let before = call.clone();
+        let guards = &mut self.guards;
+        let mut lent: Vec<Lent> = call.things.iter().map(|t| Lent::of(guards, t)).collect();
+        let found = by_library(call.kind, &mut lent);
+        // Nothing is taken as unchanged because it was lent for reading only.
+        let lent = black_box(lent);
+        let expected = by_reference(call.kind, &mut call.things);
+        if found != expected || any_difference(call, &lent).is_some() {
+            return Err(self.text(&before, call, &lent, [found, expected]));
+        }
+        self.met.add(call.kind, found, settings_in(&before));
+        self.calls += 1;
+        Ok(found)
+    }
+
+    /// The four length functions, for any five bytes.
+    pub fn lengths(&mut self, settings: [u8; 5]) -> Result<[usize; 4], Difference> {
+        let expected = lengths(&settings_of(settings));
+        let found = [
+            tob::message_len(&settings),
+            tob::frame_len(&settings),
+            tob::sender_len(&settings),
+            tob::receiver_len(&settings),
+        ];
+        if found != expected {
+            let of = format!("lengths of {settings:?}");
+            return Err(self.failed(&format!("{of}: library {found:?}, expected {expected:?}")));
+        }
+        self.met.lengths += 1;
+        Ok(expected)
+    }
+
+    /// A failure of the present case.
+    pub fn failed(&self, text: &str) -> Difference {
+        let (seed, part) = (self.seed, self.part);
+        let case = self.cases.saturating_sub(1);
+        format!("seed {seed}, case {case} ({part}), call {}: {text}", self.calls)
+    }
+
+    /// The first difference: what was lent, both replies, and the first byte that differs.
+    fn text(&self, before: &Call, after: &Call, lent: &[Lent], replies: [u32; 2]) -> Difference {
+        let mut lines = vec![self.failed(before.kind.name())];
+        lines.push(match settings_in(before) {
+            Some(settings) => format!("settings: {settings:?}"),
+            None => "settings: none to be read".to_string(),
+        });
+        for (name, thing) in before.kind.things().iter().zip(&before.things) {
+            let start: Vec<String> = thing.iter().take(16).map(|b| format!("{b:02x}")).collect();
+            lines.push(format!("lent {name}: {} bytes, {} ..", thing.len(), start.join(" ")));
+        }
+        lines.push(format!("reply: library {}, expected {}", replies[0], replies[1]));
+        lines.push(any_difference(after, lent).unwrap_or("every lent byte is alike".to_string()));
+        lines.join("\n")
+    }
+}
+
+fn any_difference(expected: &Call, lent: &[Lent]) -> Option<String> {
+    let names = expected.kind.things().iter();
+    let mut things = names.zip(lent).zip(&expected.things);
+    things.find_map(|((name, lent), due)| Some(format!("{name}, {}", lent.difference(due)?)))
+}
+
+/// The settings of an opening, or those that the state holds.
+fn settings_in(call: &Call) -> Option<Settings> {
+    let bytes = if call.kind.opens() { &call.things[0][..] } else { call.things[0].get(4..9)? };
+    Some(settings_of(bytes.try_into().ok()?))
+}

@@ -1,0 +1,141 @@
+//! What was met: the calls of each kind with their replies, and the codes covered.
+
+use std::collections::{BTreeMap, BTreeSet};
+
+use reference::settings::{every_code, Settings};
+
+use crate::call::Kind;
+
+/// Every number that a call can reply; a comparison that never met one of them proves little.
+const REPLIES: [u32; 12] = [0, 1, 2, 3, 4, 5, 6, 16, 17, 18, 19, 64];
+
+/// The number of accepted (T, B, N).
+const CODES: usize = 372;
+
+type Code = (u8, u8, u8);
+
+#[derive(Default)]
+pub struct Met {
+    replies: BTreeMap<(Kind, u32), usize>,
+    /// The accepted replies that each code has met.
+    codes: BTreeMap<Code, BTreeSet<(Kind, u32)>>,
+    lanes: BTreeSet<u8>,
+    windows: BTreeSet<u8>,
+    /// Settings handed to the four length functions.
+    pub lengths: usize,
+    /// Messages due under fair losses; each was handed out whole, as sent.
+    pub fair: usize,
+}
+
+impl Met {
+    /// One call and its reply; the settings are those of the opening or of the state.
+    pub fn add(&mut self, kind: Kind, reply: u32, settings: Option<Settings>) {
+        *self.replies.entry((kind, reply)).or_default() += 1;
+        if let (true, Some(s)) = (matches!(reply, 0 | 16..=19), settings) {
+            let code = (s.delay, s.burst, s.scattered);
+            self.codes.entry(code).or_default().insert((kind, reply));
+            self.lanes.insert(s.lanes);
+            self.windows.insert(s.window);
+        }
+    }
+
+    pub fn calls(&self) -> usize {
+        self.replies.values().sum()
+    }
+
+    fn of_kind(&self, kind: Kind) -> usize {
+        self.replies.iter().filter(|((of, _), _)| *of == kind).map(|(_, count)| count).sum()
+    }
+
+    fn of_reply(&self, reply: u32) -> usize {
+        self.replies.iter().filter(|((_, of), _)| *of == reply).map(|(_, count)| count).sum()
+    }
+
+    /// The codes that met each accepted reply that they can, of each kind of call.
+    fn covered(&self) -> usize {
+        self.codes.iter().filter(|(code, met)| **met == accepted(**code)).count()
+    }
+
+    /// The counts, for a reader to judge.
+    pub fn text(&self) -> String {
+        let mut lines = Vec::new();
+        for kind in Kind::ALL {
+            let of_kind = self.replies.iter().filter(|((of, _), _)| *of == kind);
+            let each = of_kind.map(|((_, reply), count)| format!(" {reply}: {}", grouped(*count)));
+            let each = each.collect::<Vec<_>>().join(",");
+            lines.push(format!("{}: {} calls;{each}", kind.name(), grouped(self.of_kind(kind))));
+        }
+        for reply in REPLIES {
+            lines.push(format!("reply {reply}: {}", grouped(self.of_reply(reply))));
+        }
+        lines.push(format!("settings handed to the length functions: {}", grouped(self.lengths)));
+        lines.push(format!("messages due under fair losses, all whole: {}", grouped(self.fair)));
+        let (lanes, windows) = (self.lanes.len(), self.windows.len());
+        lines.push(format!("different L: {lanes}; different W: {windows}"));
+        let (met, covered) = (self.codes.len(), self.covered());
+        lines.push(format!("(T, B, N) accepted: {met}; with every accepted reply: {covered}"));
+        lines.join("\n")
+    }
+
+    /// What is missing for the comparison to count.
+    pub fn missing(&self) -> Vec<String> {
+        let mut missing = Vec::new();
+        let mut due = |holds: bool, text: String| {
+            if !holds {
+                missing.push(text);
+            }
+        };
+        for reply in REPLIES {
+            due(self.of_reply(reply) > 0, format!("reply {reply} was never seen"));
+        }
+        let count = every_code().len();
+        due(count == CODES, format!("{count} accepted (T, B, N), and not {CODES}"));
+        let (met, covered) = (self.codes.len(), self.covered());
+        due(met == CODES, format!("{met} (T, B, N) covered, and not {CODES}"));
+        due(covered == CODES, format!("{covered} (T, B, N) met every accepted reply"));
+        for lanes in [1, 2, 3, 16, 64] {
+            due(self.lanes.contains(&lanes), format!("L = {lanes} was never accepted"));
+        }
+        due(self.lengths > 0 && self.fair > 0, "a part did not run".to_string());
+        missing
+    }
+}
+
+/// The accepted replies that calls with a code can give.
+fn accepted((delay, burst, scattered): Code) -> BTreeSet<(Kind, u32)> {
+    let reports = (16..=19).flat_map(|reply| [(Kind::Heard, reply), (Kind::Lost, reply)]);
+    let others = [Kind::OpenSender, Kind::OpenReceiver, Kind::Send].map(|kind| (kind, 0));
+    let mut replies: BTreeSet<(Kind, u32)> = reports.chain(others).collect();
+    // Where k is 1, or the code only repeats, the frame of slot t + T alone tells message t.
+    if delay == scattered || (delay == burst && scattered == 1) {
+        replies.remove(&(Kind::Heard, 18));
+    }
+    // Here the frame of slot t is then all that is known of message t.
+    if delay == 1 {
+        replies.remove(&(Kind::Lost, 19));
+    }
+    replies
+}
+
+/// Decimal, with a comma before each three digits.
+pub fn grouped(number: usize) -> String {
+    if number < 1000 {
+        return number.to_string();
+    }
+    format!("{},{:03}", grouped(number / 1000), number % 1000)
+}
+
+#[cfg(test)]
+mod tests {
+    use super::*;
+
+    #[test]
+    fn a_comparison_that_met_nothing_does_not_count() {
+        assert!(Met::default().missing().len() > REPLIES.len());
+    }
+
+    #[test]
+    fn thousands_are_set_apart() {
+        assert_eq!([0, 999, 1000, 1234567].map(grouped), ["0", "999", "1,000", "1,234,567"]);
+    }
+}
