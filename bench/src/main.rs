@@ -1,0 +1,77 @@
+//! Times of our library, of two Rust versions and of two known libraries, in one table.
+
+use bench::cases::{Case, Operation};
+use bench::engine::{self, Engine};
+use bench::measure::{repeated, times};
+use bench::peers::Peers;
+use bench::shapes::SHAPES;
+use bench::{alike, table, verdicts};
+use std::fs;
+use std::process::Command;
+
+/// Checks, times and judges.
+fn main() {
+    header();
+    let ours = engine::ours();
+    if ours.is_none() {
+        println!("Our library is not linked (target/staticlib/libtob.a is missing): the table goes without it.");
+    }
+    let engines: Vec<Engine> = ours.into_iter().chain([engine::plain(), engine::planes()]).collect();
+    let (peers, words) = Peers::load();
+    words.iter().for_each(|word| println!("{word}"));
+    self_check(&engines);
+    restoring();
+    let lines = table::lines(&engines, &peers);
+    table::print(&lines);
+    verdicts::against_plain(&lines);
+    verdicts::in_units(&lines);
+    for &engine in engines.iter().filter(|engine| engine.name != "planes") {
+        verdicts::linear_in_lanes(engine);
+        verdicts::independent_of_age(engine);
+    }
+}
+
+/// The machine, the date and how to read the table.
+fn header() {
+    let cpu = fs::read_to_string("/proc/cpuinfo").unwrap_or_default();
+    let model = cpu.lines().find_map(|line| line.strip_prefix("model name")).unwrap_or("unknown");
+    let date = Command::new("date").arg("+%Y-%m-%d %H:%M").output().map(|out| out.stdout).unwrap_or_default();
+    println!("# Times\n");
+    println!("CPU: {}. Date: {}.", model.trim_start_matches([' ', '\t', ':']), String::from_utf8_lossy(&date).trim());
+    println!(
+        "Nanoseconds a call: the median of {} batches (fewer for slow calls, at least 15) of at least 25 microseconds, in \
+         brackets the 10th and the 90th percentile. Ours, plain and planes take turns, batch by batch.",
+        table::SAMPLES
+    );
+    println!(
+        "Plain is Rust with tables of products, one elimination a codeword start, everything worked out anew in each \
+         call. Planes goes further, with bit planes of the coefficients in place of products: it is for the record."
+    );
+    println!(
+        "A report is of a frame in the slot due; with losses it is the one that hands out the first lost slot's message. \
+         Jerasure and ISA-L stand with encoding beside a send, and with decoding B or N lost vectors beside a report; \
+         jerasure's vectors are whole words, so L = 1 is 8 bytes there."
+    );
+}
+
+/// Nothing is timed that gives other bytes than the reference.
+fn self_check(engines: &[Engine]) {
+    for shape in SHAPES {
+        for lanes in [1, 16, 32, 64] {
+            alike::check(engines, &shape.settings(lanes), if lanes == 1 { 80 } else { 25 });
+        }
+    }
+    let names: Vec<&str> = engines.iter().map(|engine| engine.name).collect();
+    println!("Self-check: {} and the reference give the same frames, replies, messages and rows.", names.join(", "));
+}
+
+/// What putting the state back costs in each call.
+fn restoring() {
+    let mut case = Case::of(engine::plain(), Operation::Send, &SHAPES[0], 64, table::EARLY);
+    let found = times(&mut [repeated(|| case.restore())], 200);
+    println!(
+        "Each call starts from the same state and rows: its 13 bytes of state are put back, and the rows hold already \
+         what the call writes. Putting back takes {:.1} ns, which every time includes.\n",
+        found[0].median
+    );
+}

@@ -1,0 +1,95 @@
+//! The asked ratios, each with 'holds' or 'does not hold'.
+
+use crate::cases::{Operation, OPERATIONS};
+use crate::engine::Engine;
+use crate::measure::Times;
+use crate::shapes::{Shape, SHAPES};
+use crate::table::{beside, unit, Line, EARLY};
+
+/// Batches of each call.
+const SAMPLES: usize = 300;
+/// What noise may add.
+const NOISE: f64 = 1.1;
+/// A slot near the end of the link's life.
+const LATE: u32 = 3_999_000_000;
+
+/// One verdict.
+fn say(holds: bool, text: &str) {
+    println!("- {}: {text}", if holds { "holds" } else { "does not hold" });
+}
+
+/// Ours beside plain with 64 lanes, by medians.
+pub fn against_plain(lines: &[Line]) {
+    if lines.iter().all(|line| line.ours.is_none()) {
+        return println!("\nWithout our library there is nothing to judge against plain.");
+    }
+    println!("\nOurs takes no longer than plain, L = 64, by medians (p10–p90):\n");
+    for line in lines.iter().filter(|line| line.lanes == 64) {
+        if let Some(ours) = line.ours {
+            let (shape, name) = (line.shape.name(), line.operation.name(&line.shape));
+            let (plain, ratio) = (line.plain, ours.median / line.plain.median);
+            say(ratio <= 1.0, &format!("{shape} {name}: ours {ours} to plain {plain} ns, ratio {ratio:.2}"));
+        }
+    }
+}
+
+/// Each send at most 10 units, each report at most 50, by medians.
+pub fn in_units(lines: &[Line]) {
+    let Some(unit) = unit(lines) else {
+        return println!("\nWithout jerasure there is no unit to judge by.");
+    };
+    println!("\nA unit is jerasure's encoding of (8, 8) vectors of 64 bytes, here {unit} ns; by medians (p10–p90):\n");
+    let [ours, plain]: [fn(&Line) -> Option<Times>; 2] = [|line| line.ours, |line| Some(line.plain)];
+    for (version, time) in [("ours", ours), ("plain", plain)] {
+        for (send, most) in [(true, 10.0), (false, 50.0)] {
+            let these = lines.iter().filter(|line| (line.operation == Operation::Send) == send);
+            let worst = these.filter_map(time).max_by(|a, b| a.median.total_cmp(&b.median));
+            if let Some(worst) = worst {
+                let (what, units) = (if send { "send" } else { "report" }, worst.median / unit.median);
+                let text = format!("{version}: the slowest {what} takes {worst} ns, {units:.2} units, at most {most}");
+                say(units <= most, &text);
+            }
+        }
+    }
+}
+
+/// The cost of 16, 32 and 64 lanes: twice the lanes take at most twice the time, by 10th percentiles.
+pub fn linear_in_lanes(engine: Engine) {
+    println!(
+        "\nCost linear in L, {}, ns at L = 16, 32, 64 (p10–p90); by p10, twice the lanes take at most {:.1} times as \
+         long:\n",
+        engine.name,
+        2.0 * NOISE
+    );
+    each_case(|shape, operation| {
+        let found = beside(operation, shape, &[16, 32, 64].map(|lanes| (engine, lanes, EARLY)), SAMPLES);
+        let [one, two] = [0, 1].map(|index| found[index + 1].low / found[index].low);
+        let text = format!("{}, {}, {}; ratios {one:.2}, {two:.2}", found[0], found[1], found[2]);
+        (one.max(two) <= 2.0 * NOISE, text)
+    });
+}
+
+/// The cost early and late in the link's life, by 10th percentiles.
+pub fn independent_of_age(engine: Engine) {
+    println!(
+        "\nCost independent of how long the link has run, {}, L = 64, ns from slot {EARLY} and from slot {LATE} \
+         (p10–p90); by p10, they are apart by at most {:.0} %:\n",
+        engine.name,
+        100.0 * NOISE - 100.0
+    );
+    each_case(|shape, operation| {
+        let found = beside(operation, shape, &[EARLY, LATE].map(|due| (engine, 64, due)), SAMPLES);
+        let ratio = found[1].low / found[0].low;
+        (ratio.max(1.0 / ratio) <= NOISE, format!("{}, {}; ratio {ratio:.2}", found[0], found[1]))
+    });
+}
+
+/// Judges each shape and operation.
+fn each_case(judge: impl Fn(&Shape, Operation) -> (bool, String)) {
+    for shape in SHAPES {
+        for operation in OPERATIONS {
+            let (holds, text) = judge(&shape, operation);
+            say(holds, &format!("{} {}: {text}", shape.name(), operation.name(&shape)));
+        }
+    }
+}

@@ -1,0 +1,206 @@
+//! The Rust versions beside the reference: each call from copies of the same state and rows.
+
+use bench::engine::{self, Engine};
+use bench::link::receiver::receiver_len;
+use bench::link::sender::sender_len;
+use bench::link::shape;
+use reference::patterns::Draws;
+use reference::receiver::Reply;
+use reference::settings::{every_code, Settings};
+use reference::state::{Refusal, State};
+use reference::{receiver, sender};
+
+/// The versions.
+const VERSIONS: [Engine; 2] = [engine::plain(), engine::planes()];
+
+/// Both ends of a version, and what the link does to it.
+struct Link {
+    version: Engine,
+    settings: Settings,
+    sender: (engine::State, Vec<u8>),
+    receiver: (engine::State, Vec<u8>),
+    draws: Draws,
+}
+
+/// The settings as the calls take them.
+fn five(s: &Settings) -> engine::Settings {
+    [s.window, s.delay, s.burst, s.scattered, s.lanes]
+}
+
+/// The state as the reference has it.
+fn plain(settings: Settings, state: &engine::State) -> State {
+    assert_eq!((&state[..5], &state[9..]), (&five(&settings)[..], &[0; 4][..]));
+    State { settings, due: shape::due(state) }
+}
+
+/// The reply as a number.
+fn number<T>(result: Result<T, Refusal>, accepted: impl Fn(T) -> u32) -> u32 {
+    result.map_or_else(|refusal| u32::from(refusal.number()), accepted)
+}
+
+/// The verdict as a number.
+fn verdict(reply: Reply) -> u32 {
+    match reply {
+        Reply::NoneYet => 16,
+        Reply::Whole => 17,
+        Reply::Lost => 18,
+        Reply::Clash => 19,
+    }
+}
+
+impl Link {
+    /// Opened afresh by both, at this slot due.
+    fn open(version: Engine, settings: Settings, due: u32, draws: Draws) -> Link {
+        let five = five(&settings);
+        let mut link = Link {
+            version,
+            settings,
+            sender: ([9; 13], vec![9; sender_len(&five)]),
+            receiver: ([9; 13], vec![9; receiver_len(&five)]),
+            draws,
+        };
+        let (mut a, mut b) = (link.sender.1.clone(), link.receiver.1.clone());
+        let (one, other) = (sender::open(settings, &mut a), receiver::open(settings, &mut b));
+        assert_eq!((version.open_sender)(&five, &mut link.sender.0, &mut link.sender.1), number(one.1, |()| 0));
+        assert_eq!((version.open_receiver)(&five, &mut link.receiver.0, &mut link.receiver.1), number(other.1, |()| 0));
+        assert_eq!((plain(settings, &link.sender.0), plain(settings, &link.receiver.0)), (one.0, other.0));
+        assert!(link.sender.1 == a && link.receiver.1 == b);
+        shape::set_due(&mut link.sender.0, due);
+        shape::set_due(&mut link.receiver.0, due);
+        link
+    }
+
+    /// Sends drawn bytes; with the reference beside it if asked.
+    fn send(&mut self, compared: bool) -> Vec<u8> {
+        let message = self.draws.bytes(shape::message_len(&five(&self.settings)));
+        let mut frame = vec![9; shape::frame_len(&five(&self.settings))];
+        let (mut rows, mut other) = (self.sender.1.clone(), frame.clone());
+        let before = plain(self.settings, &self.sender.0);
+        let (state, buffer) = &mut self.sender;
+        let reply = (self.version.send)(state, buffer, &message, &mut frame);
+        if compared {
+            let (after, sent) = sender::send(before, &mut rows, &message, &mut other);
+            assert_eq!((reply, plain(self.settings, &self.sender.0)), (number(sent, |()| 0), after));
+            assert!(frame == other && self.sender.1 == rows, "{:?}", self.settings);
+        }
+        frame
+    }
+
+    /// Reports the slot due; with the reference beside it if asked.
+    fn report(&mut self, frame: Option<&[u8]>, compared: bool) -> u32 {
+        let mut message = vec![9; shape::message_len(&five(&self.settings))];
+        let (mut rows, mut other) = (self.receiver.1.clone(), message.clone());
+        let before = plain(self.settings, &self.receiver.0);
+        let (state, buffer) = &mut self.receiver;
+        let reply = match frame {
+            Some(frame) => (self.version.heard)(state, buffer, frame, &mut message),
+            None => (self.version.lost)(state, buffer, &mut message),
+        };
+        if compared {
+            let (after, said) = match frame {
+                Some(frame) => receiver::report_frame(before, &mut rows, frame, &mut other),
+                None => receiver::report_loss(before, &mut rows, &mut other),
+            };
+            assert_eq!((reply, plain(self.settings, &self.receiver.0)), (number(said, verdict), after));
+            assert!(message == other && self.receiver.1 == rows, "{:?}", self.settings);
+        }
+        reply
+    }
+
+    /// So many slots, one in `odds` lost and one in 40 damaged; one in `each` compared.
+    fn run(&mut self, slots: usize, odds: usize, each: usize, met: &mut [usize; 32]) {
+        for _ in 0..slots {
+            let compared = self.draws.below(each) == 0;
+            let mut frame = self.send(compared);
+            if self.draws.below(40) == 0 {
+                let at = 14 + self.draws.below(frame.len() - 14);
+                frame[at] ^= 1 + self.draws.below(255) as u8;
+            }
+            let lost = self.draws.below(odds) == 0;
+            let reply = self.report((!lost).then_some(&frame), compared);
+            met[reply as usize] += usize::from(compared);
+        }
+    }
+}
+
+/// Every accepted code with so many lanes; one call in `each` is compared.
+fn every(lanes: u8, slots: usize, each: usize, least: usize) {
+    for version in VERSIONS {
+        let mut met = [0; 32];
+        for (number, code) in every_code().into_iter().enumerate() {
+            let due = [0, 100, 3_999_000_000][number % 3];
+            let settings = Settings { lanes, ..code };
+            let mut link = Link::open(version, settings, due, Draws::from(number as u64 + 1));
+            for odds in [2, 4, 10] {
+                link.run(slots, odds, each, &mut met);
+            }
+        }
+        println!("{}, {lanes} lanes: {met:?}", version.name);
+        assert!(met[17..20].iter().all(|&count| count >= least), "{}: {met:?}", version.name);
+    }
+}
+
+#[test]
+fn one_lane() {
+    every(1, 30, 2, 500);
+}
+
+#[test]
+fn three_lanes() {
+    every(3, 30, 8, 200);
+}
+
+#[test]
+fn nine_to_sixty_three_lanes() {
+    for lanes in [9, 16, 63] {
+        every(lanes, 16, 200, 5);
+    }
+}
+
+#[test]
+fn sixty_four_lanes() {
+    every(64, 30, 60, 20);
+}
+
+#[test]
+fn unlost_true_broadcasts_are_whole() {
+    let both = VERSIONS.into_iter().flat_map(|version| every_code().into_iter().map(move |code| (version, code)));
+    for (version, code) in both {
+        let mut link = Link::open(version, Settings { lanes: 8, ..code }, 0, Draws::start());
+        for slot in 0..3 * code.n() {
+            let frame = link.send(false);
+            let expected = if slot < code.t() { 16 } else { 17 };
+            assert_eq!(link.report(Some(&frame), false), expected);
+        }
+    }
+}
+
+#[test]
+fn refusals_in_the_order_of_checking() {
+    VERSIONS.into_iter().for_each(refusals);
+}
+
+/// The refusals of one version.
+fn refusals(version: Engine) {
+    let settings = Settings { window: 5, delay: 4, burst: 2, scattered: 2, lanes: 3 };
+    let mut link = Link::open(version, settings, 0, Draws::start());
+    let good = link.send(true);
+    for byte in 0..14 {
+        let mut frame = good.clone();
+        frame[byte] ^= 1;
+        let expected = [4, 4, 4, 4, 4, 5, 5, 5, 5, 5, 6, 6, 6, 6][byte];
+        assert_eq!(link.report(Some(&frame), true), expected);
+    }
+    assert_eq!(link.report(Some(&good[..20]), true), 2);
+    shape::set_due(&mut link.receiver.0, 4_000_000_000);
+    shape::set_due(&mut link.sender.0, 4_000_000_000);
+    assert_eq!((link.report(Some(&good), true), link.report(None, true)), (3, 3));
+    link.send(true);
+    assert_eq!(link.report(Some(&good[..20]), true), 2);
+    link.receiver.0[0] = 4;
+    link.settings.window = 4;
+    assert_eq!(link.report(Some(&good), false), 1);
+    let mut state = [9; 13];
+    assert_eq!((version.open_receiver)(&[4, 4, 2, 2, 3], &mut state, &mut []), 1);
+    assert_eq!(((version.open_sender)(&five(&settings), &mut state, &mut []), state), (2, [0; 13]));
+}
