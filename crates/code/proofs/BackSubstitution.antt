@@ -2,27 +2,28 @@
 use mathlib.Core.Path.{_≡_, refl, sym, ap, ap₂, _∙_, subst⁻¹}
 use mathlib.Core.Bool.{Bool, true, false, cond}
 use mathlib.Core.List.{List, []}
-use mathlib.Core.Logic.{_≢_, _⊎_, ⊎-elim}
+use mathlib.Core.Logic.{_≢_, _⊎_, inl, inr, ⊎-elim}
 use Prim.Native.Nat.{ℕ, zero, suc, _+_, _-_, _≤_, _<_}
 use native.Mathlib.Nat.{eq-or-lt-of-le}
 use native.Mathlib.Omega.{arith}
-use lib.Dec.{eqb, lit<}
+use lib.Dec.{eqb, ltb, lit<}
 use lib.ListN.{getD}
-use borrow.Author.Tests.{eq-eqb, ne-eqb}
+use borrow.Author.Tests.{eq-eqb, ne-eqb, ltb-true, ltb-false}
 use Rattle.galois.specs.Byte.{_⊕_, _⊗_}
 use Rattle.galois.specs.Sum.{sum}
 use Rattle.galois.proofs.Cases.{le-or-lt}
 use Rattle.galois.proofs.Xor.{plus-below, plus-self, plus-zero}
 use Rattle.galois.proofs.ByteProduct.{times-below, times-comm, times-zero, zero-times, one-times}
-use Rattle.galois.proofs.Sums.{sum-equal, sum-zeros, sum-single, sum-below}
+use Rattle.galois.proofs.Sums.{sum-equal, sum-zeros, sum-single, sum-below, sum-split}
+use Rattle.galois.proofs.Extension.{widen-below}
 use Rattle.code.specs.declared.settings.Settings.{Settings}
 use Rattle.code.specs.Settings.{accepted, kOf}
-use Rattle.code.specs.Matrix.{entry, generatorOf}
+use Rattle.code.specs.Matrix.{spread, entry, generatorOf, bandEnd}
 use Rattle.code.specs.Word.{wordAt, multipliers, symbol, unit, systematicOf}
 use Rattle.galois.specs.Table.{table}
 use Rattle.code.proofs.Shape.{Shape}
 use Rattle.galois.proofs.ByIndex.{getD-table, table-equal}
-use Rattle.code.proofs.Entries.{entry-below, entry-zero-low, entry-one}
+use Rattle.code.proofs.Entries.{entry-below, entry-spread-before, entry-zero-low, entry-zero-high, entry-one}
 use Rattle.code.proofs.Words.{wordAt-plus, wordAt-times, wordAt-zeros, word-equal, zero-multipliers}
 use Rattle.code.proofs.Symbols.{multiplier-below, symbol-source}
 
@@ -149,26 +150,71 @@ generator-entry s i q hi hq =
     ap (λ (l : List ℕ). getD l q 0) (getD-table 16 (λ i. table 16 (λ j. entry s i j)) i [] hi)
     ∙ getD-table 16 (λ j. entry s i j) q 0 hq
 
+-- ---- the source symbols after a row's own that are not 0
+
+-- the end is k or i + N, whichever is less
+pub band-end : (s : Settings) (i : ℕ) → (bandEnd s i ≤ kOf s) × (bandEnd s i ≤ i + s .scattered)
+    × ((kOf s ≤ bandEnd s i) ⊎ (i + s .scattered ≤ bandEnd s i))
+unfolding bandEnd
+band-end s i = go (ltb (kOf s) (i + s .scattered)) refl
+  where
+    go : (t : Bool) → ltb (kOf s) (i + s .scattered) ≡ t
+        → let end : ℕ = cond t (kOf s) (i + s .scattered) in
+        (end ≤ kOf s) × (end ≤ i + s .scattered) × ((kOf s ≤ end) ⊎ (i + s .scattered ≤ end))
+    go true e = let h = ltb-true (kOf s) (i + s .scattered) e in (omega arith, omega arith, inl (omega arith))
+    go false e = let h = ltb-false (kOf s) (i + s .scattered) e in (omega arith, omega arith, inr (omega arith))
+
+module _ (s : Settings) (h : Shape s) (i : ℕ) (hi : i < kOf s) where
+  -- a row's source symbols are narrow
+  pub source-narrow : (q : ℕ) → q < kOf s → entry s i q < 16
+  source-narrow q hq =
+      subst⁻¹ (λ (x : ℕ). x < 16) (entry-spread-before s i q hi (omega arith) (omega arith)) (widen-below (spread s i q))
+
+  -- and 0 from the end on
+  past-end : (q : ℕ) → bandEnd s i ≤ q → q < kOf s → entry s i q ≡ 0
+  past-end q low high =
+      ⊎-elim (λ all. omega arith)
+      (λ above. entry-zero-high s h i q hi (omega arith) (omega arith))
+      (band-end s i .2)
+
+  -- so the sum over the later source symbols ends there
+  band-sum : (f : ℕ → ℕ) → sum (kOf s - (i + 1)) (λ e. entry s i (i + 1 + e) ⊗ f e)
+      ≡ sum (bandEnd s i - (i + 1)) (λ e. entry s i (i + 1 + e) ⊗ f e)
+  band-sum f =
+      let term : ℕ → ℕ = λ e. entry s i (i + 1 + e) ⊗ f e in
+      let m : ℕ = bandEnd s i - (i + 1) in
+      let n : ℕ = kOf s - bandEnd s i in
+      let ends = band-end s i in
+      let all : kOf s - (i + 1) ≡ m + n = ⊎-elim (λ k. omega arith) (λ k. omega arith) (ends .2) in
+      let from : i + 1 ≤ bandEnd s i = ⊎-elim (λ k. omega arith) (λ k. omega arith) (ends .2) in
+      ap (λ (e : ℕ). sum e term) all ∙ sum-split m n term
+      ∙ ap (λ (x : ℕ). sum m term ⊕ x)
+      (sum-zeros n (λ e. term (m + e))
+      (λ e he. ap (λ (x : ℕ). x ⊗ f (m + e)) (past-end (i + 1 + (m + e)) (omega arith) (omega arith)) ∙ zero-times (f (m + e))))
+      ∙ plus-zero (sum m term)
+
 -- G's row i with the rows after it cancelled is row i of the systematic form
 pub row-done : (s : Settings) → Shape s → (i : ℕ) → i < kOf s → (rows : List (List ℕ))
     → ((r : ℕ) → i + 1 ≤ r → r < 16 → getD rows r [] ≡ table 16 (symbol s (unit r)))
     → table 16 (λ p. getD (getD (generatorOf s) i []) p 0
-    ⊕ sum (kOf s - (i + 1)) (λ e. getD (getD (generatorOf s) i []) (i + 1 + e) 0 ⊗ getD (getD rows (i + 1 + e) []) p 0))
+    ⊕ sum (bandEnd s i - (i + 1)) (λ e. getD (getD (generatorOf s) i []) (i + 1 + e) 0 ⊗ getD (getD rows (i + 1 + e) []) p 0))
     ≡ table 16 (symbol s (unit i))
 row-done s h i hi rows done =
+    let end = band-end s i .0 in
     table-equal 16
     (λ p. getD (getD (generatorOf s) i []) p 0
-    ⊕ sum (kOf s - (i + 1)) (λ e. getD (getD (generatorOf s) i []) (i + 1 + e) 0 ⊗ getD (getD rows (i + 1 + e) []) p 0))
+    ⊕ sum (bandEnd s i - (i + 1)) (λ e. getD (getD (generatorOf s) i []) (i + 1 + e) 0 ⊗ getD (getD rows (i + 1 + e) []) p 0))
     (symbol s (unit i))
     (λ p hp.
     ap₂ _⊕_ (generator-entry s i p (omega arith) hp)
-    (sum-equal (kOf s - (i + 1))
+    (sum-equal (bandEnd s i - (i + 1))
     (λ e. getD (getD (generatorOf s) i []) (i + 1 + e) 0 ⊗ getD (getD rows (i + 1 + e) []) p 0)
     (λ e. entry s i (i + 1 + e) ⊗ symbol s (unit (i + 1 + e)) p)
     (λ e he.
     ap₂ _⊗_ (generator-entry s i (i + 1 + e) (omega arith) (omega arith))
     (ap (λ (l : List ℕ). getD l p 0) (done (i + 1 + e) (omega arith) (omega arith))
-    ∙ getD-table 16 (symbol s (unit (i + 1 + e))) p 0 hp)))
+    ∙ getD-table 16 (symbol s (unit (i + 1 + e))) p 0 hp))
+    ∙ sym (band-sum s h i hi (λ e. symbol s (unit (i + 1 + e)) p)))
     ∙ sym (systematic-step s h i hi p))
 
 -- ---- the systematic form, for settings that are accepted and not

@@ -7,4 +7,5 @@ pub mod Entries
 pub mod Words
 pub mod Symbols
 pub mod BackSubstitution
+pub mod Multiples
 pub mod Fits

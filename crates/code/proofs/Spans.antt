@@ -1,5 +1,5 @@
 -- The spread form by products over spans of points: the quotient of the product at a position by the product at the row.
-use mathlib.Core.Path.{_≡_, refl, sym, ap, ap₂, _∙_}
+use mathlib.Core.Path.{_≡_, refl, sym, ap, ap₂, _∙_, subst⁻¹}
 use mathlib.Core.Bool.{Bool, true, false, cond, _&&_}
 use mathlib.Core.List.{List, []}
 use Prim.Native.Nat.{ℕ, zero, suc, _+_, _-_, _≤_, _<_}
@@ -50,18 +50,18 @@ quotient-times a b c d ha hb hc hd =
     times-exchange a (narrowReciprocal b) c (narrowReciprocal d) ha (narrows .reciprocal-below b hb) hc (narrows .reciprocal-below d hd)
     ∙ ap (λ (x : ℕ). (a ⊠ c) ⊠ x) (sym (reciprocal-times b d hb hd))
 
--- a quotient is a product with the quotient of 1
-pub quotient-inverse : (a b : ℕ) → b < 16 → narrowQuotient a b ≡ a ⊠ narrowQuotient 1 b
-unfolding narrowQuotient
-quotient-inverse a b h = ap (λ (x : ℕ). a ⊠ x) (sym (narrows .one-times (narrowReciprocal b) (narrows .reciprocal-below b h)))
-
 -- ---- spans
 
 -- a span is narrow
-span-narrow : (a e j : ℕ) → span a e j < 16
+pub span-narrow : (a e j : ℕ) → span a e j < 16
 unfolding span
 span-narrow a zero j = lit< tt
 span-narrow a (suc e) j = times-narrow (span a e j) (j ⊞ (a + e))
+
+-- and so is what a table of spans holds
+pub spans-narrow : (a e : ℕ) (l : List ℕ) → l ≡ table 16 (λ j. span a e j) → (j : ℕ) → j < 16 → getD l j 0 < 16
+spans-narrow a e l same j h =
+    subst⁻¹ (λ (x : ℕ). x < 16) (ap (λ (l : List ℕ). getD l j 0) same ∙ getD-table 16 (λ j. span a e j) j 0 h) (span-narrow a e j)
 
 -- a span takes one more point at its front
 span-front : (a e j : ℕ) → span a (suc e) j ≡ span (suc a) e j ⊠ (j ⊞ a)

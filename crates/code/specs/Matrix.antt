@@ -40,3 +40,7 @@ entry s i j =
 -- G as 16 rows of 16
 unfoldable pub generatorOf : Settings → List (List ℕ)
 generatorOf s = table 16 (λ i. table 16 (λ j. entry s i j))
+
+-- the end of the source positions of row i that are not 0: its zero points above it start at i + N, or none is left before k
+unfoldable pub bandEnd : Settings → ℕ → ℕ
+bandEnd s i = cond (ltb (kOf s) (i + s .scattered)) (kOf s) (i + s .scattered)

@@ -1,6 +1,7 @@
 // The code: settings, the generator matrix, and its systematic form.
 mod encoder;
 mod matrix;
+mod narrow;
 mod settings;
 mod tables;
 

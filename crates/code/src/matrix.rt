@@ -5,7 +5,7 @@ use galois::Gf16;
 use galois::Gf256;
 ghost use mathlib.Core.Bool.{true, cond};
 ghost use mathlib.Core.Path.{_≡_};
-ghost use Prim.Native.Nat.{_+_, _-_, _<_};
+ghost use Prim.Native.Nat.{ℕ, _+_, _-_, _<_, _≤_};
 ghost use lib.Dec.{ltb};
 ghost use lib.ListN.{getD};
 ghost use Rattle.galois.specs.Byte.{widen};
@@ -129,13 +129,14 @@ fn products_below() -> [[u8; 16]; 16]
 }
 
 // Products with one more factor each: j plus a point, at position j.
-fn with_point(products: [u8; 16], point: u16) -> [u8; 16]
+fn with_point(products: [u8; 16], point: u8) -> [u8; 16]
+    requires { ⌜ (point < 16) × ((j : ℕ) → j < 16 → getD products j 0 < 16) ⌝ }
     ensures { λ r. ⌜ r ≡ table 16 (λ j. getD products j 0 ⊠ (j ⊞ point)) ⌝ }
 {
     let mut out = [0u8; 16];
     let mut j: usize = 0;
     while j < 16 {
-        out[j] = Gf16(products[j]).product(shifted(j as u8, point)).0;
+        out[j] = Gf16(products[j]).narrow_product(Gf16(j as u8 ^ point)).0;
         j += 1;
     }
     out
@@ -143,29 +144,61 @@ fn with_point(products: [u8; 16], point: u16) -> [u8; 16]
 
 // A number at a position before the end; 0 from the end on.
 fn before_end(end: u8, position: u8, number: u8) -> u8
+    requires { ⌜ (end ≤ 16) × (position < 16) ⌝ }
     ensures { λ r. ⌜ r ≡ cond (ltb position end) number 0 ⌝ }
 {
-    if position < end {
-        return number;
+    number * ((end + 15 - position) / 16 % 2)
+}
+
+// A row up to an end; 0 from the end on.
+fn up_to(end: u8, row: [u8; 16]) -> [u8; 16]
+    requires { ⌜ end ≤ 16 ⌝ }
+    ensures { λ r. ⌜ r ≡ table 16 (λ j. cond (ltb j end) (getD row j 0) 0) ⌝ }
+{
+    let mut out = [0u8; 16];
+    let mut j: usize = 0;
+    while j < 16 {
+        out[j] = before_end(end, j as u8, row[j]);
+        j += 1;
     }
-    0
+    out
+}
+
+// The products of two rows, position by position.
+fn products(row: [u8; 16], other: [u8; 16]) -> [u8; 16]
+    requires { ⌜ ((j : ℕ) → j < 16 → getD row j 0 < 16) × ((j : ℕ) → j < 16 → getD other j 0 < 16) ⌝ }
+    ensures { λ r. ⌜ r ≡ table 16 (λ j. getD row j 0 ⊠ getD other j 0) ⌝ }
+{
+    let mut out = [0u8; 16];
+    let mut j: usize = 0;
+    while j < 16 {
+        out[j] = Gf16(row[j]).narrow_product(Gf16(other[j])).0;
+        j += 1;
+    }
+    out
+}
+
+// A narrow multiple of a row up to an end; 0 from the end on.
+fn multiple(number: Gf16, end: u8, row: [u8; 16]) -> [u8; 16]
+    requires { ⌜ (number .0 < 16) × (end ≤ 16) × ((j : ℕ) → j < 16 → getD row j 0 < 16) ⌝ }
+    ensures { λ r. ⌜ r ≡ table 16 (λ j. cond (ltb j end) (number .0 ⊠ getD row j 0) 0) ⌝ }
+{
+    let mut out = [0u8; 16];
+    let mut j: usize = 0;
+    while j < 16 {
+        out[j] = before_end(end, j as u8, number.narrow_product(Gf16(row[j])).0);
+        j += 1;
+    }
+    out
 }
 
 // The first entries of a row of the spread form, from the products over its zero points below and above it; 0 from the end on.
 fn spread_row(row: usize, end: u8, below: [u8; 16], above: [u8; 16]) -> [u8; 16]
-    requires { ⌜ row < 16 ⌝ }
+    requires { ⌜ (row < 16) × (end ≤ 16) × ((j : ℕ) → j < 16 → getD below j 0 < 16) × ((j : ℕ) → j < 16 → getD above j 0 < 16) ⌝ }
     ensures { λ r. ⌜ r ≡ table 16 (λ j. cond (ltb j end) (widen (narrowQuotient (getD below j 0 ⊠ getD above j 0) (getD below row 0 ⊠ getD above row 0))) 0) ⌝ }
 {
-    let own = Gf16(below[row]).product(Gf16(above[row]));
-    let inverse = Gf16(1).quotient(own);
-    let mut entries = [0u8; 16];
-    let mut j: usize = 0;
-    while j < 16 {
-        let product = Gf16(below[j]).product(Gf16(above[j]));
-        entries[j] = before_end(end, j as u8, product.product(inverse).widen().0);
-        j += 1;
-    }
-    entries
+    let whole = products(below, above);
+    multiple(Gf16(whole[row]).reciprocal(), end, whole)
 }
 
 // A row of G for accepted settings: the spread form, with α in its place from position T on in a row below d.
@@ -173,11 +206,12 @@ fn generator_row(s: Settings, row: usize, below: [u8; 16], above: [u8; 16]) -> [
     requires { ⌜ (accepted s ≡ true) × (row < kOf s) × (below ≡ table 16 (λ j. span 0 row j)) × (above ≡ table 16 (λ j. span (row + s .scattered) (kOf s - (row + 1)) j)) ⌝ }
     ensures { λ r. ⌜ r ≡ table 16 (λ j. entry s row j) ⌝ }
 {
+    let spread = spread_row(row, s.symbols() as u8, below, above);
     if s.alpha_rows() <= row {
-        return spread_row(row, s.symbols() as u8, below, above);
+        return spread;
     }
     let delay = s.effective_delay();
-    let mut entries = spread_row(row, delay, below, above);
+    let mut entries = up_to(delay, spread);
     entries[delay as usize + row] = Gf256::ALPHA.0;
     entries
 }
@@ -196,7 +230,7 @@ pub fn generator(s: Settings) -> [[u8; 16]; 16]
     while 0 < i {
         i -= 1;
         rows[i] = generator_row(s, i, below[i], above);
-        let more = with_point(above, i as u16 + s.scattered as u16 - 1);
+        let more = with_point(above, i as u8 + s.scattered - 1);
         above = more;
     }
     rows

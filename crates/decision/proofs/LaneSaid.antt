@@ -2,6 +2,7 @@
 use mathlib.Core.Path.{_≡_, refl, sym, ap, _∙_}
 use mathlib.Core.Bool.{Bool, true, false, cond, _&&_}
 use mathlib.Core.List.{List}
+use mathlib.Core.Logic.{_⊎_, inl, inr}
 use Prim.Native.Nat.{ℕ, _+_, _*_, _<_}
 use native.Mathlib.Omega.{arith}
 use borrow.Author.Tests.{lt-ltb}
@@ -18,12 +19,18 @@ use Rattle.elimination.proofs.LaneDecided.{symbol-decided}
 use Rattle.lanes.specs.Lanes.{laneByte}
 use Rattle.lanes.proofs.Shares.{lane-inside}
 use Rattle.protocol.specs.Verdict.{rowAt, reportedAt, arrived, symbolSaid, wholeByte}
-use Rattle.decision.specs.Decision.{startsOf, placesOf, knownFlag, flagsOf, sharedByte}
+use Rattle.decision.specs.Decision.{placesOf, knownFlag, flagsOf, sharedByte}
+use Rattle.decision.proofs.Filled.{upTo, up-below}
+use Rattle.decision.proofs.Places.{place-at}
 use Rattle.decision.proofs.SameValues.{same-values}
 
 flag-read : (b : Bool) → eqb (cond b 1 0) 1 ≡ b
 flag-read true = refl
 flag-read false = refl
+
+flag-two : (b : Bool) → let flag : ℕ = cond b 1 0 in (flag ≡ 0) ⊎ (flag ≡ 1)
+flag-two true = inr refl
+flag-two false = inl refl
 
 -- a lane's bytes are bytes
 byte-below : (b : Bool) (x : ℕ) → x < 256 → cond b x 0 < 256
@@ -34,48 +41,46 @@ pub lane-below : (s : Settings) (places rows : List ℕ) → ((q : ℕ) → getD
 unfolding laneByte
 lane-below s places rows below v p = byte-below (ltb p (nOf s)) (getD rows (getD places p 0 + v) 0) (below (getD places p 0 + v))
 
--- the flags and the places of the codewords that start at slot t - i
-abbrev pub flagsRead : Settings → List ℕ → ℕ → ℕ → ℕ → List ℕ
-flagsRead s rows due t i = flagsOf rows (due + i) t (startsOf s t i)
-
-abbrev pub placesRead : Settings → ℕ → ℕ → List ℕ
-placesRead s t i = placesOf s (startsOf s t i)
-
 module _ (s : Settings) (passed : T (accepted s)) (rows : List ℕ) (due t i : ℕ) where
-  -- the positions known by the flags are those that arrived
-  known-read : (v p : ℕ) → p < nOf s → knownIn s (flagsRead s rows due t i) p ≡ arrived s rows due t i v .known p
-  unfolding knownIn flagsOf startsOf knownFlag arrived reportedAt
-  known-read v p hp =
+  -- a flag of the word, by what is read
+  flag-at : (p : ℕ) → p < nOf s → getD (flagsOf s rows (due + i) t i) p 0 ≡ knownFlag rows (due + i) (t + p) (rowAt s t i p)
+  unfolding flagsOf
+  flag-at p hp =
       let h = shape s passed in
-      let start : ℕ → Bool = λ at. ltb (t + p) (due + i) && eqb (getD rows at 0) 1 in
+      let flag : ℕ → ℕ = λ p. knownFlag rows (due + i) (t + p) (rowAt s t i p) in
+      getD-table 16 (upTo (nOf s) flag) p 0 (omega arith) ∙ up-below (nOf s) flag p hp
+
+  -- it is 0 or 1
+  pub flag-cases : (p : ℕ) → p < nOf s
+      → (getD (flagsOf s rows (due + i) t i) p 0 ≡ 0) ⊎ (getD (flagsOf s rows (due + i) t i) p 0 ≡ 1)
+  unfolding knownFlag
+  flag-cases p hp = rw (flag-at p hp) (flag-two (ltb (t + p) (due + i) && eqb (getD rows (rowAt s t i p) 0) 1))
+
+  -- the positions known by the flags are those that arrived
+  known-read : (v p : ℕ) → p < nOf s → knownIn s (flagsOf s rows (due + i) t i) p ≡ arrived s rows due t i v .known p
+  unfolding knownIn knownFlag arrived reportedAt
+  known-read v p hp =
       rw (lt-ltb p (nOf s) hp)
-      (ap (λ (x : ℕ). eqb x 1)
-      (getD-table 16 (λ p. knownFlag rows (due + i) (t + p) (getD (startsOf s t i) p 0)) p 0 (omega arith)
-      ∙ ap (λ (at : ℕ). cond (start at) 1 0) (getD-table 16 (rowAt s t i) p 0 (omega arith)))
+      (ap (λ (x : ℕ). eqb x 1) (flag-at p hp)
       ∙ flag-read (arrived s rows due t i v .known p))
 
   -- and their bytes too
-  byte-read : (v p : ℕ) → p < nOf s → laneByte s (placesRead s t i) rows v p ≡ arrived s rows due t i v .byte p
-  unfolding placesOf startsOf arrived
+  byte-read : (v p : ℕ) → p < nOf s → laneByte s (placesOf s t i) rows v p ≡ arrived s rows due t i v .byte p
+  unfolding arrived
   byte-read v p hp =
-      let h = shape s passed in
-      let place : getD (placesRead s t i) p 0 + v ≡ rowAt s t i p + (1 + (p * s .lanes + v)) =
-      omega (
-        arith,
-        getD-table 16 (λ p. getD (startsOf s t i) p 0 + (1 + p * s .lanes)) p 0 (omega arith),
-        getD-table 16 (rowAt s t i) p 0 (omega arith),
-      ) in
-      sym (lane-inside s (placesRead s t i) rows v p hp) ∙ ap (λ (at : ℕ). getD rows at 0) place
+      let place : getD (placesOf s t i) p 0 + v ≡ rowAt s t i p + (1 + (p * s .lanes + v)) =
+      omega (arith, place-at s (shape s passed) t i p hp) in
+      sym (lane-inside s (placesOf s t i) rows v p hp) ∙ ap (λ (at : ℕ). getD rows at 0) place
 
   pub lane-said : ((q : ℕ) → getD rows q 0 < 256) → i < kOf s → (v : ℕ)
-      → let known = knownIn s (flagsRead s rows due t i) in
-      symbolOf s (eliminated s known) known (laneByte s (placesRead s t i) rows v) i ≡ symbolSaid s rows due t i v
+      → let known = knownIn s (flagsOf s rows (due + i) t i) in
+      symbolOf s (eliminated s known) known (laneByte s (placesOf s t i) rows v) i ≡ symbolSaid s rows due t i v
   unfolding symbolSaid
   lane-said below hi v =
       let h = shape s passed in
-      let known : ℕ → Bool = knownIn s (flagsRead s rows due t i) in
-      let byte : ℕ → ℕ = laneByte s (placesRead s t i) rows v in
-      symbol-decided s h (record { known = known; byte = byte }) (lane-below s (placesRead s t i) rows below v) i (omega arith)
+      let known : ℕ → Bool = knownIn s (flagsOf s rows (due + i) t i) in
+      let byte : ℕ → ℕ = laneByte s (placesOf s t i) rows v in
+      symbol-decided s passed (record { known = known; byte = byte }) (lane-below s (placesOf s t i) rows below v) i (omega arith)
       ∙ ap said
       (same-values s (record { known = known; byte = byte }) (arrived s rows due t i v) (known-read v) (byte-read v) i)
 

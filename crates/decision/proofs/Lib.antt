@@ -1,4 +1,5 @@
 -- The laws that the functions' proofs cite, and those of the call for its callers.
+pub mod Filled
 pub mod Places
 pub mod SameValues
 pub mod Marks

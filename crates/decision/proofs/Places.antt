@@ -14,7 +14,8 @@ use Rattle.code.specs.Settings.{delayOf, kOf, nOf}
 use Rattle.code.proofs.Shape.{Shape}
 use Rattle.protocol.specs.Lengths.{bodyLen, rowLen, rowCount, receiverLen}
 use Rattle.protocol.specs.Verdict.{rowAt}
-use Rattle.decision.specs.Decision.{startsOf, placesOf}
+use Rattle.decision.specs.Decision.{placesOf}
+use Rattle.decision.proofs.Filled.{upTo, up-below}
 
 pub body-few : (s : Settings) → Shape s → nOf s * s .lanes ≤ 1024
 body-few s h = mul-le-mul (h .symbols-few) (h .lanes-few)
@@ -81,25 +82,13 @@ module _ (s : Settings) (h : Shape s) (t i p : ℕ) where
   row-at-few = row-few (t + p + (kOf s + delayOf s) - i) (kOf s + delayOf s) (1 + nOf s * s .lanes) (omega arith) (omega arith)
       (omega (arith, body-few s h))
 
--- the starts and the places of all positions
-module _ (s : Settings) (h : Shape s) (t i : ℕ) where
-  start-at : (p : ℕ) → p < 16 → getD (startsOf s t i) p 0 ≡ rowAt s t i p
-  unfolding startsOf
-  start-at p few = getD-table 16 (rowAt s t i) p 0 few
-
-  pub start-few : (p : ℕ) → p < 16 → getD (startsOf s t i) p 0 ≤ 32800
-  start-few p few = omega (arith, start-at p few, row-at-few s h t i p)
-
-  pub start-inside : (p : ℕ) → p < 16 → getD (startsOf s t i) p 0 < receiverLen s
-  start-inside p few = omega (arith, start-at p few, first-inside s h t i p)
-
-  pub place-inside : (p : ℕ) → p < nOf s → getD (placesOf s (startsOf s t i)) p 0 + s .lanes ≤ receiverLen s
+-- the places of the word's positions
+module _ (s : Settings) (h : Shape s) (t i p : ℕ) (below : p < nOf s) where
+  pub place-at : getD (placesOf s t i) p 0 ≡ rowAt s t i p + (1 + p * s .lanes)
   unfolding placesOf
-  place-inside p below =
-      let few : p < 16 = omega (arith, h .symbols-few) in
-      omega (
-        arith,
-        getD-table 16 (λ p. getD (startsOf s t i) p 0 + (1 + p * s .lanes)) p 0 few,
-        start-at p few,
-        symbol-inside s h t i p below,
-      )
+  place-at =
+      let place : ℕ → ℕ = λ p. rowAt s t i p + (1 + p * s .lanes) in
+      getD-table 16 (upTo (nOf s) place) p 0 (omega (arith, h .symbols-few)) ∙ up-below (nOf s) place p below
+
+  pub place-inside : getD (placesOf s t i) p 0 + s .lanes ≤ receiverLen s
+  place-inside = omega (arith, place-at, symbol-inside s h t i p below)

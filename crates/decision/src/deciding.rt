@@ -1,8 +1,6 @@
 // The receiver's decision on one message: for each source symbol one elimination, and one answer for all lanes.
-use crate::known::known_flags;
 use crate::known::unsolved;
-use crate::starts::row_starts;
-use crate::starts::symbol_places;
+use crate::starts::locate;
 use code::Settings;
 use protocol::Reply;
 use protocol::clear;
@@ -11,8 +9,9 @@ ghost use mathlib.Core.Path.{_≡_};
 ghost use Prim.Native.Nat.{_<_};
 ghost use lib.Dec.{ltb};
 ghost use lib.ListN.{length};
-ghost use Rattle.code.specs.Matrix.{generatorOf};
 ghost use Rattle.code.specs.Settings.{kOf};
+ghost use Rattle.code.specs.Word.{systematicOf};
+ghost use Rattle.lanes.specs.Lanes.{Clear};
 ghost use Rattle.protocol.specs.Lengths.{messageLen};
 ghost use Rattle.protocol.specs.Verdict.{verdict, bufferOf};
 ghost use Rattle.decision.specs.Decision.{Ready, Told};
@@ -27,7 +26,8 @@ fn worse(a: u8, b: u8) -> u8
     a
 }
 
-// Symbol i of message t in all lanes: its mark, and its bytes where the mark is 0. The matrix is G.
+// Symbol i of message t in all lanes: its mark, and its bytes where the mark is 0. The matrix is the systematic form; of the pairs only
+// the zeros matter, and they stay.
 fn write_symbol(
     s: Settings,
     rows: &[u8],
@@ -35,18 +35,20 @@ fn write_symbol(
     t: usize,
     i: usize,
     matrix: &[[u8; 16]; 16],
+    pairs: &mut [[u8; 64]; 32],
     out: &mut [u8],
 ) -> u8
-    requires { ⌜ Ready s (now rows) t × (due < 4294967296) × (i < kOf s) × (now matrix ≡ generatorOf s) × (length (now out) ≡ s .lanes) ⌝ }
-    ensures { λ r. ⌜ Told s (now (rows .entry)) due t i r (now (out .exit)) ⌝ }
+    requires { ⌜ Ready s (now rows) t × (due < 4294967296) × (i < kOf s) × (now matrix ≡ systematicOf s) × Clear (now pairs) × (length (now out) ≡ s .lanes) ⌝ }
+    ensures { λ r. ⌜ Told s (now (rows .entry)) due t i r (now (out .exit)) × Clear (now (pairs .exit)) ⌝ }
 {
-    let starts = row_starts(s, t, i);
-    let places = symbol_places(s, &starts);
-    let flags = known_flags(rows, due + i, t, &starts);
+    let mut places = [0usize; 16];
+    let mut flags = [0u8; 16];
+    locate(s, rows, due + i, t, i, &mut places, &mut flags);
     let mut roles = [0u8; 16];
-    let reduced = elimination::eliminate(s, *matrix, flags, &mut roles);
-    let left = unsolved(s, flags, roles);
-    lanes::answer(s, &reduced, roles, left, &places, rows, i, out)
+    let mut reduced = *matrix;
+    elimination::eliminate(s, &mut reduced, &flags, &mut roles);
+    let left = unsolved(s, &flags, &roles);
+    lanes::answer(s, &reduced, &roles, &left, &places, rows, i, pairs, out)
 }
 
 // What the receiver says of message t, once the slots below due are reported. The buffer gets the message when it is whole, else
@@ -55,7 +57,8 @@ pub(crate) fn decided(s: Settings, rows: &[u8], due: usize, t: usize, message: &
     requires { ⌜ Ready s (now rows) t × (due < 4294967296) × (length (now message) ≡ messageLen s) ⌝ }
     ensures { λ r. ⌜ (r ≡ verdict s (now (rows .entry)) due t) × (now (message .exit) ≡ bufferOf s (now (rows .entry)) due t r) ⌝ }
 {
-    let matrix = code::generator(s);
+    let matrix = code::systematic(s);
+    let mut pairs = [[0u8; 64]; 32];
     let lanes = s.lanes as usize;
     let mut worst: u8 = 0;
     let mut i: usize = 0;
@@ -68,6 +71,7 @@ pub(crate) fn decided(s: Settings, rows: &[u8], due: usize, t: usize, message: &
             t,
             i,
             &matrix,
+            &mut pairs,
             &mut message[start..start + lanes],
         );
         worst = worse(worst, mark);

@@ -10,10 +10,10 @@ use Rattle.galois.proofs.Cases.{and-left, any-at, some-any}
 use Rattle.galois.proofs.Xor.{plus-assoc, plus-zero, plus-self, zero-plus, plus-below}
 use Rattle.galois.proofs.ByteProduct.{one-times}
 use Rattle.code.specs.declared.settings.Settings.{Settings}
-use Rattle.code.specs.Settings.{kOf, nOf}
+use Rattle.code.specs.Settings.{accepted, kOf, nOf}
 use Rattle.code.specs.Word.{wordAt}
 use Rattle.code.specs.Fitting.{Arrived, fits}
-use Rattle.code.proofs.Shape.{Shape}
+use Rattle.code.proofs.Shape.{Shape, shape}
 use Rattle.code.proofs.Fits.{fits-at}
 use Rattle.elimination.specs.Elimination.{cell, free, Reduced, eliminated, combined, clashes, differs}
 use Rattle.elimination.proofs.Spans.{word, only, only-below, word-only, word-plus}
@@ -26,14 +26,17 @@ added-zero : (x y : ℕ) → x ⊕ y ≡ x → y ≡ 0
 added-zero x y e =
     sym (zero-plus y) ∙ ap (λ (z : ℕ). z ⊕ y) (sym (plus-self x)) ∙ plus-assoc x x y ∙ ap (λ (z : ℕ). x ⊕ z) e ∙ plus-self x
 
-module _ (s : Settings) (h : Shape s) (a : Arrived) where
+module _ (s : Settings) (passed : T (accepted s)) (a : Arrived) where
+  abbrev h : Shape s
+  h = shape s passed
+
   -- where there is a clash no word fits
   pub decided-clash : T (clashes s (eliminated s (a .known)) (a .known) (a .byte)) → (u : ℕ → ℕ) → ((r : ℕ) → u r < 256)
       → T (fits s a u) → ⊥
   unfolding clashes
   decided-clash t u hu f =
       let x : Reduced = eliminated s (a .known) in
-      let i : Invariant s (a .known) (nOf s) x = invariant-end s h (a .known) in
+      let i : Invariant s (a .known) (nOf s) x = invariant-end s passed (a .known) in
       let found = any-at (nOf s) (λ q. a .known q && not (eqb (combined s x (a .byte) q) (a .byte q))) t in
       let q : ℕ = found .0 in
       let kn : T (a .known q) = and-left (a .known q) (not (eqb (combined s x (a .byte) q) (a .byte q))) (found .2) in
@@ -46,7 +49,7 @@ module _ (s : Settings) (h : Shape s) (a : Arrived) where
   unfolding differs
   decided-shared i hi t u hu f =
       let x : Reduced = eliminated s (a .known) in
-      fitting-combined s h a x (invariant-end s h (a .known)) u hu f i hi
+      fitting-combined s h a x (invariant-end s passed (a .known)) u hu f i hi
       (λ r hr fr. test-equal (free (x .roles) r) (cell (x .rows) r i) 0
       (λ passed. T-not (differs s x i) t
       (some-any (kOf s) (λ r. free (x .roles) r && not (eqb (cell (x .rows) r i) 0)) r hr passed))
@@ -58,7 +61,7 @@ module _ (s : Settings) (h : Shape s) (a : Arrived) where
         × ((q : ℕ) → q < nOf s → wordAt s u q ≡ combined s (eliminated s (a .known)) (a .byte) q)
     decided-fits =
         let x : Reduced = eliminated s (a .known) in
-        let i : Invariant s (a .known) (nOf s) x = invariant-end s h (a .known) in
+        let i : Invariant s (a .known) (nOf s) x = invariant-end s passed (a .known) in
         let z : ℕ → ℕ = chosen s h a x i in
         let u = agrees-fits s h a x i z (chosen-below s h a x i hb)
         (λ q hq kn. chosen-word s h a x i q ∙ combined-known s h a x i clear q hq kn) in
@@ -71,7 +74,7 @@ module _ (s : Settings) (h : Shape s) (a : Arrived) where
         → wordAt s u q ≡ combined s (eliminated s (a .known)) (a .byte) q ⊕ cell (eliminated s (a .known) .rows) r q)
     beside r hr fr =
         let x : Reduced = eliminated s (a .known) in
-        let i : Invariant s (a .known) (nOf s) x = invariant-end s h (a .known) in
+        let i : Invariant s (a .known) (nOf s) x = invariant-end s passed (a .known) in
         let z : ℕ → ℕ = chosen s h a x i in
         let w : ℕ → ℕ = λ q. z q ⊕ only r 1 q in
         let sums : (q : ℕ) → q < nOf s
@@ -79,7 +82,7 @@ module _ (s : Settings) (h : Shape s) (a : Arrived) where
         word-plus (kOf s) (cell (x .rows)) z (only r 1) q
         ∙ ap (λ (c : ℕ). c ⊕ word (kOf s) (cell (x .rows)) (only r 1) q) (chosen-word s h a x i q)
         ∙ ap (λ (c : ℕ). combined s x (a .byte) q ⊕ c)
-        (word-only (kOf s) (cell (x .rows)) r 1 q hr ∙ one-times (cell (x .rows) r q) (i .bytes r q hr (omega arith))) in
+        (word-only (kOf s) (cell (x .rows)) r 1 q hr ∙ one-times (cell (x .rows) r q) (i .bytes r q hr (omega (arith, h .symbols-few)))) in
         let u = agrees-fits s h a x i w
         (λ q. plus-below 8 (z q) (only r 1 q) (chosen-below s h a x i hb q) (only-below r 1 (lit< tt) q))
         (λ q hq kn. sums q hq ∙ ap (λ (c : ℕ). combined s x (a .byte) q ⊕ c) (i .free-zeros q hq kn r hr fr)

@@ -29,5 +29,5 @@ pub repaired : (s : Settings) → T (accepted s) → (t i : ℕ) → i < kOf s �
 repaired s accept t i hi lost fair u hu a hb heard true-bytes =
     let h : Shape s = shape s accept in
     let fu : T (fits s a u) = fits-all s a u (λ p hp kn. sym (true-bytes p hp kn)) in
-    symbol-decided s h a hb i (omega arith)
+    symbol-decided s accept a hb i (omega arith)
     ∙ said-whole s a i u hu fu (λ v hv fv. window-fits s h t i hi lost fair a heard v u hv hu fv fu)

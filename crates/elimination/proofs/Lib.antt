@@ -4,6 +4,7 @@ pub mod ValueLaws
 pub mod PivotSearch
 pub mod Rewritten
 pub mod Spans
+pub mod SystematicRows
 pub mod Steps
 pub mod Roles
 pub mod Pivots
@@ -11,6 +12,7 @@ pub mod Invariant
 pub mod Agreeing
 pub mod Decided
 pub mod Reductions
+pub mod OwnColumns
 pub mod Terms
 pub mod Answers
 pub mod LaneDecided

@@ -82,29 +82,29 @@ pivot-found x p a (suc m) =
 -- ---- one position
 
 -- with a row below 16 the position is cleared by it; with 16 nothing changes
-pivoted-row : (x : Reduced) (r p : ℕ) → r < 16
-    → pivoted x r p ≡ record { rows = cleared (x .rows) r p; roles = set (x .roles) r p }
+pivoted-row : (k : ℕ) (x : Reduced) (r p : ℕ) → r < 16
+    → pivoted k x r p ≡ record { rows = cleared k (x .rows) r p; roles = set (x .roles) r p }
 unfolding pivoted
-pivoted-row x r p hr = rw (lt-ltb r 16 hr, pivoted)
+pivoted-row k x r p hr = rw (lt-ltb r 16 hr, pivoted)
 
-pivoted-none : (x : Reduced) (r p : ℕ) → r ≡ 16 → pivoted x r p ≡ x
+pivoted-none : (k : ℕ) (x : Reduced) (r p : ℕ) → r ≡ 16 → pivoted k x r p ≡ x
 unfolding pivoted
-pivoted-none x r p e = rw (e, pivoted)
+pivoted-none k x r p e = rw (e, pivoted)
 
 -- what holds of the matrix and its roles where the position is not known, where it has no pivot, and where it has one
 pub step-cases : (P : Reduced → Type 0) (k : ℕ) (known : Bool) (p : ℕ) (x : Reduced) → k ≤ 16
     → ((T known → ⊥) → P x)
     → (T known → ((q : ℕ) → q < k → T (free (x .roles) q) → cell (x .rows) q p ≡ 0) → P x)
     → (T known → (r : ℕ) → r < k → T (free (x .roles) r) → cell (x .rows) r p ≢ 0
-    → P (record { rows = cleared (x .rows) r p; roles = set (x .roles) r p }))
+    → P (record { rows = cleared k (x .rows) r p; roles = set (x .roles) r p }))
     → P (columnStep k known p x)
 unfolding columnStep
 step-cases P k false p x hk unknown none found = unknown (λ t. t)
 step-cases P k true p x hk unknown none found =
     ⊎-elim
     (λ at. let below : pivotFrom x p 0 k < k = omega arith in
-    subst⁻¹ P (pivoted-row x (pivotFrom x p 0 k) p (omega arith))
+    subst⁻¹ P (pivoted-row k x (pivotFrom x p 0 k) p (omega arith))
     (found tt (pivotFrom x p 0 k) below (at .is-free) (at .not-zero)))
-    (λ never. subst⁻¹ P (pivoted-none x (pivotFrom x p 0 k) p (never .0))
+    (λ never. subst⁻¹ P (pivoted-none k x (pivotFrom x p 0 k) p (never .0))
     (none tt (λ q hq f. never .1 q zero-le (omega arith) f)))
     (pivot-found x p 0 k)

@@ -10,9 +10,7 @@ use Rattle.galois.specs.Byte.{_⊕_, _⊗_, high, low, byte, eight, first, reci
 use Rattle.galois.specs.Narrow.{narrow, _⊞_, timesZ, timesBits, _⊠_}
 use Rattle.galois.specs.Table.{table}
 use Rattle.galois.proofs.ByIndex.{getD-table, is-table, table-equal}
-use Rattle.galois.proofs.ByteField.{reciprocal-below}
-use Rattle.galois.proofs.ByteProduct.{times-comm, zero-times, one-times}
-use Rattle.galois.proofs.Xor.{plus-zero}
+use Rattle.galois.proofs.ByteProduct.{times-comm, one-times}
 use Rattle.elimination.specs.Elimination.{Reduced, cell, scaledAt, cleared, pivotFrom, pivoted, columnStep}
 
 -- row q once row r is the pivot of position p
@@ -31,12 +29,12 @@ row-cleared m r p q false e =
     (λ j. cell m q j ⊕ cell m q p ⊗ scaledAt m r p j)
     (λ j h. ap (λ (x : ℕ). cell m q j ⊕ cell m q p ⊗ x) (getD-table 16 (scaledAt m r p) j 0 h)))
 
--- a row by the quotient of 1 and a byte is the row divided by it
-pub row-divided : (row : List ℕ) (y : ℕ) → table 16 (λ j. quotient 1 y ⊗ getD row j 0) ≡ table 16 (λ j. quotient (getD row j 0) y)
+-- a row by the reciprocal of a byte is the row divided by it
+pub row-divided : (row : List ℕ) (y : ℕ) → table 16 (λ j. reciprocal y ⊗ getD row j 0) ≡ table 16 (λ j. quotient (getD row j 0) y)
 unfolding quotient
 row-divided row y =
-    table-equal 16 (λ j. (1 ⊗ reciprocal y) ⊗ getD row j 0) (λ j. getD row j 0 ⊗ reciprocal y)
-    (λ j h. ap (λ (z : ℕ). z ⊗ getD row j 0) (one-times (reciprocal y) (reciprocal-below y)) ∙ times-comm (reciprocal y) (getD row j 0))
+    table-equal 16 (λ j. reciprocal y ⊗ getD row j 0) (λ j. getD row j 0 ⊗ reciprocal y)
+    (λ j h. times-comm (reciprocal y) (getD row j 0))
 
 one-by-one : reciprocal 1 ≡ 1
 unfolding reciprocal first _⊗_ _⊞_ _⊠_ narrow timesBits timesZ high low byte eight
@@ -53,12 +51,6 @@ row-by-one row y n below e =
     (ap (λ (z : ℕ). getD row j 0 ⊗ z) (ap reciprocal e ∙ one-by-one) ∙ times-comm (getD row j 0) 1
     ∙ one-times (getD row j 0) (below j)))
 
--- a row with 0 times another added stays as it is
-pub row-stays : (row other : List ℕ) (y : ℕ) → length row ≡ 16 → y ≡ 0 → row ≡ table 16 (λ j. getD row j 0 ⊕ y ⊗ getD other j 0)
-row-stays row other y n e =
-    is-table 16 (λ j. getD row j 0 ⊕ y ⊗ getD other j 0) 0 row n
-    (λ j h. sym (rw (e, zero-times (getD other j 0)) (plus-zero (getD row j 0))))
-
 -- ---- one position
 
 -- an unknown position changes nothing
@@ -73,6 +65,6 @@ no-pivot-step k p x b e h = rw (e, columnStep, le-ltb (pivotFrom x p 0 k) 16 h, 
 
 -- else its pivot clears the column and takes the role
 pub pivot-step : (k p : ℕ) (x : Reduced) (b : Bool) → b ≡ true → pivotFrom x p 0 k < 16
-    → record { rows = cleared (x .rows) (pivotFrom x p 0 k) p; roles = set (x .roles) (pivotFrom x p 0 k) p } ≡ columnStep k b p x
+    → record { rows = cleared k (x .rows) (pivotFrom x p 0 k) p; roles = set (x .roles) (pivotFrom x p 0 k) p } ≡ columnStep k b p x
 unfolding columnStep pivoted
 pivot-step k p x b e h = rw (e, columnStep, lt-ltb (pivotFrom x p 0 k) 16 h, pivoted)

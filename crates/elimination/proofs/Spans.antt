@@ -96,7 +96,7 @@ word-plus k M u v p =
 -- ---- a matrix whose rows are words of another
 
 -- where every row of M is a word of G, so is every word of M
-within-rows : (k n : ℕ) (M G w : ℕ → ℕ → ℕ) → ((r p : ℕ) → r < k → p < n → M r p ≡ word k G (w r) p) → Within k n M G
+pub within-rows : (k n : ℕ) (M G w : ℕ → ℕ → ℕ) → ((r p : ℕ) → r < k → p < n → M r p ≡ word k G (w r) p) → Within k n M G
 within-rows k n M G w e u hu = (
   λ q. sum k (λ r. u r ⊗ w r q),
   λ q. sum-below 8 k (λ r. u r ⊗ w r q) (λ r _. times-below (u r) (w r q)),

@@ -1,15 +1,16 @@
--- Elimination of a matrix over the known positions in order, as lists, and what it says of a symbol.
+-- Elimination of the systematic form over the known positions, as lists, and what it says of a symbol. The known sources are pivots
+-- from the start, so only the parity positions are worked through.
 use mathlib.Core.Bool.{Bool, true, false, cond, not, _&&_}
 use mathlib.Core.List.{List, [], _∷_}
-use Prim.Native.Nat.{ℕ, zero, suc}
+use Prim.Native.Nat.{ℕ, zero, suc, _+_}
 use lib.Dec.{eqb, ltb}
 use lib.ListN.{getD, set, replicate}
 use Rattle.galois.specs.Bounded.{any}
 use Rattle.galois.specs.Byte.{_⊕_, _⊗_, quotient}
 use Rattle.galois.specs.Sum.{sum}
 use Rattle.code.specs.declared.settings.Settings.{Settings}
-use Rattle.code.specs.Matrix.{generatorOf}
 use Rattle.code.specs.Settings.{accepted, kOf, nOf}
+use Rattle.code.specs.Word.{systematicOf}
 use Rattle.galois.specs.Table.{table}
 use Rattle.elimination.specs.declared.lane.Symbol.{Symbol}
 use Rattle.elimination.specs.declared.lane.Symbol.the-variants.{Clash, Lost, Whole}
@@ -37,31 +38,39 @@ pivotFrom x p r (suc m) =
 unfoldable pub scaledAt : List (List ℕ) → ℕ → ℕ → ℕ → ℕ
 scaledAt m r p j = quotient (cell m r j) (cell m r p)
 
--- row r scaled to 1 at position p, and position p cleared from every other row
-unfoldable pub cleared : List (List ℕ) → ℕ → ℕ → List (List ℕ)
-cleared m r p =
-    table 16 (λ q. table 16 (λ j. cond (eqb q r) (scaledAt m r p j) (cell m q j ⊕ cell m q p ⊗ scaledAt m r p j)))
+-- row r scaled to 1 at position p, and position p cleared from every other of the first k rows; the rows from k on stay
+unfoldable pub cleared : ℕ → List (List ℕ) → ℕ → ℕ → List (List ℕ)
+cleared k m r p =
+    table 16
+    (λ q.
+    cond (ltb q k)
+    (table 16 (λ j. cond (eqb q r) (scaledAt m r p j) (cell m q j ⊕ cell m q p ⊗ scaledAt m r p j)))
+    (getD m q []))
 
 -- row r becomes the pivot of position p, unless r is 16
-unfoldable pub pivoted : Reduced → ℕ → ℕ → Reduced
-pivoted x r p =
+unfoldable pub pivoted : ℕ → Reduced → ℕ → ℕ → Reduced
+pivoted k x r p =
     elim (ltb r 16) [
-      | true ↦ record { rows = cleared (x .rows) r p; roles = set (x .roles) r p }
+      | true ↦ record { rows = cleared k (x .rows) r p; roles = set (x .roles) r p }
       | false ↦ x
     ]
 
 -- one position: its pivot, if it is known and some row can be one
 unfoldable pub columnStep : ℕ → Bool → ℕ → Reduced → Reduced
-columnStep k known p x = elim known [ true ↦ pivoted x (pivotFrom x p 0 k) p | false ↦ x ]
+columnStep k known p x = elim known [ true ↦ pivoted k x (pivotFrom x p 0 k) p | false ↦ x ]
 
--- the matrix m with its first p positions done
+-- the roles at the start: a known source is the pivot of its own row
+unfoldable pub firstRoles : Settings → (ℕ → Bool) → List ℕ
+firstRoles s known = table 16 (λ r. cond (ltb r (kOf s) && known r) r 16)
+
+-- the matrix m with its first e parity positions done
 unfoldable pub columns : Settings → List (List ℕ) → (ℕ → Bool) → ℕ → Reduced
-columns s m known zero = record { rows = m; roles = replicate 16 16 }
-columns s m known (suc p) = columnStep (kOf s) (known p) p (columns s m known p)
+columns s m known zero = record { rows = m; roles = firstRoles s known }
+columns s m known (suc e) = columnStep (kOf s) (known (kOf s + e)) (kOf s + e) (columns s m known e)
 
--- G with all positions done
+-- the systematic form with all parity positions done
 unfoldable pub eliminated : Settings → (ℕ → Bool) → Reduced
-eliminated s known = columns s (generatorOf s) known (nOf s)
+eliminated s known = columns s (systematicOf s) known (s .burst)
 
 -- the sum of the pivots' rows, each by the byte at its position, at position q
 unfoldable pub combined : Settings → Reduced → (ℕ → ℕ) → ℕ → ℕ
@@ -88,14 +97,14 @@ symbolOf s x known byte i =
 unfoldable pub knownIn : Settings → List ℕ → ℕ → Bool
 knownIn s flags p = ltb p (nOf s) && eqb (getD flags p 0) 1
 
--- elimination of the matrix m over the flags; for settings that are not accepted, zeros and no pivot
+-- elimination of the matrix m over the flags; for settings that are not accepted, m itself and no pivot
 unfoldable pub reducedFrom : Settings → List (List ℕ) → List ℕ → Reduced
 reducedFrom s m flags =
     elim (accepted s) [
-      | true ↦ columns s m (knownIn s flags) (nOf s)
-      | false ↦ record { rows = table 16 (λ r. table 16 (λ p. 0)); roles = replicate 16 16 }
+      | true ↦ columns s m (knownIn s flags) (s .burst)
+      | false ↦ record { rows = m; roles = replicate 16 16 }
     ]
 
--- elimination of G over the flags
+-- elimination of the systematic form over the flags
 unfoldable pub reducedOf : Settings → List ℕ → Reduced
-reducedOf s flags = reducedFrom s (generatorOf s) flags
+reducedOf s flags = reducedFrom s (systematicOf s) flags

@@ -1,20 +1,23 @@
-// Elimination on a copy of a matrix, over the known positions in order. It is the same for every lane.
+// Elimination in place, over the known positions of a systematic form: the known sources are pivots from the start, then each
+// known parity position takes one more. It is the same for every lane.
 use code::Settings;
 use galois::Gf256;
-use multiples::row_plus;
+use multiples::quarters;
+use multiples::row_by;
 use multiples::row_times;
-ghost use mathlib.Core.Bool.{cond};
+ghost use mathlib.Core.Bool.{cond, _&&_};
 ghost use mathlib.Core.Path.{_≡_};
 ghost use Prim.Native.Nat.{_≤_, _<_};
-ghost use lib.Dec.{eqb};
-ghost use lib.ListN.{length, getD};
+ghost use lib.Dec.{eqb, ltb};
+ghost use lib.ListN.{length, getD, replicate};
 ghost use Rattle.galois.specs.Byte.{_⊕_, _⊗_, quotient};
 ghost use Rattle.galois.specs.Table.{table};
+ghost use Rattle.multiples.specs.Quarters.{quartersOf};
 ghost use Rattle.elimination.specs.Elimination.{pivotFrom, cleared, columnStep, reducedFrom};
 
 // The first row below k that is free and not 0 at position p, or 16.
-fn pivot_row(rows: &[[u8; 16]; 16], roles: &[u8; 16], p: usize, k: usize) -> usize
-    requires { ⌜ (p < 16) × (k ≤ 16) × (length (now roles) ≡ 16) ⌝ }
+fn pivot_row(rows: &[[u8; 16]], roles: &[u8; 16], p: usize, k: usize) -> usize
+    requires { ⌜ (p < 16) × (k ≤ 16) × (length (now rows) ≡ 16) × (length (now roles) ≡ 16) ⌝ }
     ensures { λ r. ⌜ r ≡ pivotFrom (record { rows = now (rows .entry); roles = now (roles .entry) }) p 0 k ⌝ }
 {
     let mut r: usize = 0;
@@ -37,39 +40,37 @@ fn scaled(row: [u8; 16], p: usize) -> [u8; 16]
     if row[p] == 1 {
         return row;
     }
-    row_times(row, Gf256(1).quotient(Gf256(row[p])).0)
+    row_times(row, Gf256(row[p]).reciprocal().0)
 }
 
-// The pivot's row itself, or another row with position p cleared by it; one that is 0 there stays as it is.
-fn replaced(row: [u8; 16], pivot: [u8; 16], p: usize, own: bool) -> [u8; 16]
-    requires { ⌜ p < 16 ⌝ }
+// The pivot's row itself, or another row with position p cleared by it, from the quarters of the pivot's row.
+fn replaced(row: [u8; 16], pivot: [u8; 16], parts: &[[u8; 16]; 16], p: usize, own: bool) -> [u8; 16]
+    requires { ⌜ (p < 16) × (now parts ≡ quartersOf pivot) ⌝ }
     ensures { λ r. ⌜ r ≡ cond own pivot (table 16 (λ j. getD row j 0 ⊕ getD row p 0 ⊗ getD pivot j 0)) ⌝ }
 {
     if own {
         return pivot;
     }
-    if row[p] == 0 {
-        return row;
-    }
-    row_plus(row, row[p], pivot)
+    row_by(row, row[p], parts)
 }
 
-// Row r is scaled to 1 at position p, which is cleared from every other row.
-fn clear_column(rows: &mut [[u8; 16]; 16], r: usize, p: usize)
-    requires { ⌜ (r < 16) × (p < 16) × (length (now rows) ≡ 16) ⌝ }
-    ensures { λ _. ⌜ now (rows .exit) ≡ cleared (now (rows .entry)) r p ⌝ }
+// Row r is scaled to 1 at position p, which is cleared from every other of the first k rows.
+fn clear_column(rows: &mut [[u8; 16]; 16], r: usize, p: usize, k: usize)
+    requires { ⌜ (r < 16) × (p < 16) × (k ≤ 16) × (length (now rows) ≡ 16) ⌝ }
+    ensures { λ _. ⌜ now (rows .exit) ≡ cleared k (now (rows .entry)) r p ⌝ }
 {
     let pivot = scaled(rows[r], p);
+    let parts = quarters(pivot);
     let mut q: usize = 0;
-    while q < 16 {
-        rows[q] = replaced(rows[q], pivot, p, q == r);
+    while q < k {
+        rows[q] = replaced(rows[q], pivot, &parts, p, q == r);
         q += 1;
     }
 }
 
 // One position: its pivot, if it is known and some row can be one.
 fn column_step(rows: &mut [[u8; 16]; 16], roles: &mut [u8; 16], flag: u8, p: usize, k: usize)
-    requires { ⌜ (p < 16) × (k ≤ 16) × (length (now rows) ≡ 16) × (length (now roles) ≡ 16) ⌝ }
+    requires { ⌜ (p < 16) × (k ≤ 16) × (length (now roles) ≡ 16) ⌝ }
     ensures { λ _. ⌜ record { rows = now (rows .exit); roles = now (roles .exit) } ≡ columnStep k (eqb flag 1) p (record { rows = now (rows .entry); roles = now (roles .entry) }) ⌝ }
 {
     if flag != 1 {
@@ -79,29 +80,37 @@ fn column_step(rows: &mut [[u8; 16]; 16], roles: &mut [u8; 16], flag: u8, p: usi
     if 15 < r {
         return;
     }
-    clear_column(rows, r, p);
+    clear_column(rows, r, p, k);
     roles[r] = p as u8;
 }
 
-// A matrix after elimination over the positions whose flag is 1, with the role of each row; for settings that are not
-// accepted, zeros, and no pivot.
-pub fn eliminate(
-    s: Settings,
-    matrix: [[u8; 16]; 16],
-    flags: [u8; 16],
-    roles: &mut [u8; 16],
-) -> [[u8; 16]; 16]
-    ensures { λ r. ⌜ record { rows = r; roles = now (roles .exit) } ≡ reducedFrom s matrix flags ⌝ }
+// The roles at the start: a source whose flag is 1 is the pivot of its own row. What is lent says that no row is a pivot.
+fn first_roles(flags: &[u8; 16], k: usize, roles: &mut [u8; 16])
+    requires { ⌜ (k ≤ 16) × (now roles ≡ replicate 16 16) ⌝ }
+    ensures { λ _. ⌜ now (roles .exit) ≡ table 16 (λ r. cond (ltb r k && eqb (getD (now (flags .entry)) r 0) 1) r 16) ⌝ }
+{
+    let mut r: usize = 0;
+    while r < k {
+        if flags[r] == 1 {
+            roles[r] = r as u8;
+        }
+        r += 1;
+    }
+}
+
+// A systematic form after elimination over the positions whose flag is 1, with the role of each row; for settings that are not
+// accepted the rows stay, and no row is a pivot.
+pub fn eliminate(s: Settings, rows: &mut [[u8; 16]; 16], flags: &[u8; 16], roles: &mut [u8; 16])
+    ensures { λ _. ⌜ record { rows = now (rows .exit); roles = now (roles .exit) } ≡ reducedFrom s (now (rows .entry)) (now (flags .entry)) ⌝ }
 {
     *roles = [16u8; 16];
     if !s.accepted() {
-        return [[0u8; 16]; 16];
+        return;
     }
-    let mut rows = matrix;
-    let mut p: usize = 0;
+    first_roles(flags, s.sources(), roles);
+    let mut p = s.sources();
     while p < s.symbols() {
-        column_step(&mut rows, roles, flags[p], p, s.sources());
+        column_step(rows, roles, flags[p], p, s.sources());
         p += 1;
     }
-    rows
 }

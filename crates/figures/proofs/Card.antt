@@ -11,9 +11,9 @@ use Rattle.galois.specs.Sum.{sum}
 use Rattle.code.specs.declared.settings.Settings.{Settings}
 use Rattle.galois.specs.Table.{table}
 use Rattle.code.specs.Settings.{delayOf, kOf, nOf, dOf, all, accepted}
-use Rattle.code.specs.Matrix.{point, factor, product, spread, alphaEntry, entry, generatorOf}
-use Rattle.code.specs.Word.{wordAt, multipliers, symbol}
-use Rattle.elimination.specs.Elimination.{cell, free, pivotFrom, scaledAt, cleared, pivoted, columnStep, columns, eliminated}
+use Rattle.code.specs.Matrix.{point, factor, product, spread, alphaEntry, entry}
+use Rattle.code.specs.Word.{wordAt, multipliers, symbol, unit, systematicOf}
+use Rattle.elimination.specs.Elimination.{cell, free, pivotFrom, scaledAt, cleared, pivoted, columnStep, firstRoles, columns, eliminated}
 use Rattle.elimination.specs.Elimination.{combined, clashes, differs, symbolOf}
 use Rattle.protocol.specs.Lengths.{lastSlot, messageLen, bodyLen, frameLen, senderLen, rowLen, rowCount, receiverLen}
 use Rattle.protocol.specs.Rows.{putRow, joined}
@@ -67,13 +67,13 @@ rows : Rows figures
 unfolding figures rowOf parity unitParities table
     _⊠_ _⊞_ narrow timesBits timesZ narrowQuotient narrowReciprocal narrowReciprocals
     _⊕_ _⊗_ high low byte eight alpha reciprocal first quotient widen sum every any
-    delayOf kOf nOf dOf all accepted point factor product spread alphaEntry entry generatorOf wordAt multipliers symbol
+    delayOf kOf nOf dOf all accepted point factor product spread alphaEntry entry wordAt multipliers symbol unit systematicOf
     bodiesOf framesOf sent sends sendOf openSenderOf openCause sendCause lastSlot messageLen bodyLen frameLen senderLen
     putRow frameOf bodyOf sentSymbol remembered header mark five slotBytes
     calls reportsOf openReceiverOf receivedZeros joined rowLen rowCount receiverLen small smallFrames
     quickTold toldBy quickReports quickReport quickMoved quickReply verdictBy bufferBy quickSymbol
     lossCause frameCause agree messageDue someCodeword arrived rowAt reportedAt
-    cell free pivotFrom scaledAt cleared pivoted columnStep columns eliminated combined clashes differs symbolOf
+    cell free pivotFrom scaledAt cleared pivoted columnStep firstRoles columns eliminated combined clashes differs symbolOf
 rows =
     let told-so : (fates : List Fate) → T (smallFrames (calls (setTo 3 2 2) fates))
     → told (toldOf (setTo 3 2 2) fates) ≡ told (quickTold (setTo 3 2 2) fates)

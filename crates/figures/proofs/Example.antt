@@ -13,8 +13,9 @@ use Rattle.galois.proofs.Cases.{and-left, and-right, both-pass}
 use Rattle.code.specs.declared.settings.Settings.{Settings}
 use Rattle.galois.specs.Table.{table}
 use Rattle.code.specs.Settings.{accepted, all, delayOf, kOf, nOf, dOf}
-use Rattle.code.specs.Matrix.{point, factor, product, spread, alphaEntry, entry, generatorOf}
-use Rattle.elimination.specs.Elimination.{cell, free, pivotFrom, scaledAt, cleared, pivoted, columnStep, columns, eliminated}
+use Rattle.code.specs.Matrix.{point, factor, product, spread, alphaEntry, entry}
+use Rattle.code.specs.Word.{wordAt, multipliers, symbol, unit, systematicOf}
+use Rattle.elimination.specs.Elimination.{cell, free, pivotFrom, scaledAt, cleared, pivoted, columnStep, firstRoles, columns, eliminated}
 use Rattle.elimination.specs.Elimination.{combined, clashes, differs, symbolOf}
 use Rattle.protocol.specs.declared.Receiver.{Receiver}
 use Rattle.protocol.specs.Lengths.{lastSlot, messageLen, bodyLen, frameLen, rowLen, rowCount, receiverLen}
@@ -137,11 +138,11 @@ unfolding quickTranscript exampleLines quickPlayed quickSkipped andThen pieces s
     lineOf decimal decimalUpTo stopLine
     table _⊠_ _⊞_ narrow timesBits timesZ narrowQuotient narrowReciprocal narrowReciprocals
     _⊕_ _⊗_ high low byte eight alpha reciprocal first quotient widen sum every any
-    delayOf kOf nOf dOf all accepted point factor product spread alphaEntry entry generatorOf
+    delayOf kOf nOf dOf all accepted point factor product spread alphaEntry entry wordAt multipliers symbol unit systematicOf
     lastSlot messageLen bodyLen frameLen rowLen rowCount receiverLen putRow joined header mark five slotBytes
     openReceiverOf openCause receivedZeros lossCause frameCause agree messageDue someCodeword arrived rowAt reportedAt
     quickReport quickMoved quickReply verdictBy bufferBy quickSymbol
-    cell free pivotFrom scaledAt cleared pivoted columnStep columns eliminated combined clashes differs symbolOf
+    cell free pivotFrom scaledAt cleared pivoted columnStep firstRoles columns eliminated combined clashes differs symbolOf
 computed = refl
 
 pub example-printed : transcript example ≡ exampleLines

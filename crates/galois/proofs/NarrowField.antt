@@ -78,22 +78,19 @@ reciprocal-above a h = List·getD-eq-default narrowReciprocals 0 h
 shifts : ℕ → ℕ → ℕ
 shifts a b = bitXor (bitXor (bitXor (a * (b % 2)) (a * 2 * (b / 2 % 2))) (a * 4 * (b / 4 % 2))) (a * 8 * (b / 8 % 2))
 
--- z^4, z^5 and z^6 replaced by what they are modulo z^4 + z + 1
+-- what stands from z^4 on replaced by itself and its double at the bottom: z^4 is z + 1
 reduced : ℕ → ℕ
-reduced p = bitXor (bitXor (bitXor p (19 * (p / 16 % 2))) (38 * (p / 32 % 2))) (76 * (p / 64 % 2))
+reduced p = bitXor (bitXor (p % 16) (p / 16)) (p / 16 * 2)
 
 reduced-shifts : (a b : ℕ) → a < 16 → b < 16 → reduced (shifts a b) ≡ a ⊠ b
 unfolding every reduced shifts _⊠_ narrow timesBits timesZ
 reduced-shifts = equal₂ 16 (λ a b. reduced (shifts a b)) _⊠_ tt
 
--- the four shifted terms and the three replaced powers make the product
-pub shifts-product : (a b s₀ s₁ s₂ s₃ r₀ r₁ r₂ : ℕ) → a < 16 → b < 16
+-- the four shifted terms, with the powers from z^4 on replaced, make the product
+pub shifts-product : (a b s₀ s₁ s₂ s₃ r : ℕ) → a < 16 → b < 16
     → s₀ ≡ a * (b % 2) → s₁ ≡ a * 2 * (b / 2 % 2) → s₂ ≡ a * 4 * (b / 4 % 2) → s₃ ≡ a * 8 * (b / 8 % 2)
     → let p : ℕ = bitXor (bitXor (bitXor s₀ s₁) s₂) s₃ in
-    r₀ ≡ 19 * (p / 16 % 2) → r₁ ≡ 38 * (p / 32 % 2) → r₂ ≡ 76 * (p / 64 % 2)
-    → bitXor (bitXor (bitXor p r₀) r₁) r₂ ≡ a ⊠ b
+    r ≡ bitXor (bitXor (p % 16) (p / 16)) (p / 16 * 2) → r ≡ a ⊠ b
 unfolding reduced shifts
-shifts-product a b s₀ s₁ s₂ s₃ r₀ r₁ r₂ ha hb e₀ e₁ e₂ e₃ f₀ f₁ f₂ =
-    let p : ℕ = bitXor (bitXor (bitXor s₀ s₁) s₂) s₃ in
-    ap₂ bitXor (ap₂ bitXor (ap (bitXor p) f₀) f₁) f₂
-    ∙ ap reduced (ap₂ bitXor (ap₂ bitXor (ap₂ bitXor e₀ e₁) e₂) e₃) ∙ reduced-shifts a b ha hb
+shifts-product a b s₀ s₁ s₂ s₃ r ha hb e₀ e₁ e₂ e₃ same =
+    same ∙ ap reduced (ap₂ bitXor (ap₂ bitXor (ap₂ bitXor e₀ e₁) e₂) e₃) ∙ reduced-shifts a b ha hb

@@ -2,7 +2,8 @@
 use crate::byte::Gf256;
 use crate::tables::NARROW_RECIPROCALS;
 ghost use mathlib.Core.Path.{_≡_};
-ghost use Prim.Native.Nat.{_*_, _%_};
+ghost use Prim.Native.Nat.{_*_, _/_, _%_, _<_};
+ghost use lib.Bits.{bitXor};
 ghost use Rattle.galois.specs.Byte.{widen};
 ghost use Rattle.galois.specs.Narrow.{_⊞_, _⊠_, narrowReciprocal, narrowQuotient};
 
@@ -27,7 +28,6 @@ impl Gf16 {
         Gf16(a ^ b)
     }
 
-    // The polynomials' product, with z^4, z^5 and z^6 replaced by what they are modulo z^4 + z + 1.
     pub fn product(self, other: Gf16) -> Gf16
         ensures { λ r. ⌜ r .0 ≡ self .0 ⊠ other .0 ⌝ }
     {
@@ -39,11 +39,21 @@ impl Gf16 {
         if 15 < y {
             return Gf16(0);
         }
+        self.narrow_product(other)
+    }
+
+    // The product of two numbers that are narrow: the polynomials', with z^4, z^5 and z^6 replaced by what they are modulo z^4 + z + 1.
+    pub fn narrow_product(self, other: Gf16) -> Gf16
+        requires { ⌜ (self .0 < 16) × (other .0 < 16) ⌝ }
+        ensures { λ r. ⌜ r .0 ≡ self .0 ⊠ other .0 ⌝ }
+    {
+        let x = self.0;
+        let y = other.0;
         let sum = where_odd(x, y)
             ^ where_odd(x * 2, y / 2)
             ^ where_odd(x * 4, y / 4)
             ^ where_odd(x * 8, y / 8);
-        Gf16(sum ^ where_odd(19, sum / 16) ^ where_odd(38, sum / 32) ^ where_odd(76, sum / 64))
+        Gf16(replaced(sum))
     }
 
     pub fn reciprocal(self) -> Gf16
@@ -79,4 +89,12 @@ fn where_odd(number: u8, other: u8) -> u8
     ensures { λ r. ⌜ r ≡ number * (other % 2) ⌝ }
 {
     number * (other % 2)
+}
+
+// A polynomial of up to eight terms with its powers from z^4 on replaced once, z^4 by z + 1.
+fn replaced(polynomial: u8) -> u8
+    ensures { λ r. ⌜ r ≡ bitXor (bitXor (polynomial % 16) (polynomial / 16)) (polynomial / 16 * 2) ⌝ }
+{
+    let over = polynomial / 16;
+    polynomial % 16 ^ over ^ over * 2
 }

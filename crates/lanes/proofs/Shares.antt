@@ -1,22 +1,26 @@
--- A row's share of the sums of all lanes: the cases of it, and the bytes that it is made of.
-use mathlib.Core.Path.{_≡_, refl, sym, ap, _∙_}
+-- The bytes of the lanes at a position, and the sums of all lanes that are made of them.
+use mathlib.Core.Path.{_≡_, refl, sym, ap, _∙_, subst}
 use mathlib.Core.Bool.{Bool, true, false, cond}
-use mathlib.Core.List.{List}
-use Prim.Native.Nat.{ℕ, _+_, _-_, _≤_, _<_}
+use mathlib.Core.List.{List, []}
+use mathlib.Core.Logic.{_≢_}
+use Prim.Native.Nat.{ℕ, _+_, _*_, _-_, _≤_, _<_}
 use native.Mathlib.Omega.{arith}
-use borrow.Author.Tests.{lt-ltb, le-ltb}
-use lib.ListN.{length, getD, take, drop, replicate, length-replicate, replicate-append-replicate}
-use lib.Seq.{take-at, getD-take, getD-drop}
+use borrow.Author.Tests.{lt-ltb, le-ltb, eqb-true, ne-eqb, eq-eqb}
+use lib.ListN.{length, getD, take, drop, replicate, length-replicate, getD-replicate, length-take, length-drop, replicate-append-replicate}
+use lib.Seq.{take-at, length-take-le, getD-take, getD-drop}
 use Rattle.galois.specs.Byte.{_⊕_, _⊗_}
+use Rattle.galois.specs.Sum.{sum}
 use Rattle.galois.specs.Table.{table}
-use Rattle.galois.proofs.ByIndex.{is-table}
-use Rattle.galois.proofs.ByteProduct.{times-comm, times-zero, zero-times}
+use Rattle.galois.proofs.ByIndex.{is-table, length-table, getD-table, table-equal}
+use Rattle.galois.proofs.ByteProduct.{times-comm, times-zero, one-times}
+use Rattle.galois.proofs.Sums.{sum-equal, sum-zeros, sum-split, sum-single}
 use Rattle.galois.proofs.Xor.{plus-zero}
+use Rattle.multiples.specs.Pairs.{vectorOf, weightedOf}
 use Rattle.code.specs.declared.settings.Settings.{Settings}
-use Rattle.code.specs.Settings.{nOf}
-use Rattle.elimination.specs.Elimination.{Reduced, free, cell}
-use Rattle.elimination.proofs.PivotSearch.{getD-default, is-pivot}
-use Rattle.lanes.specs.Lanes.{laneByte, share}
+use Rattle.code.specs.Settings.{kOf, nOf}
+use Rattle.code.proofs.Shape.{Shape}
+use Rattle.elimination.specs.Elimination.{Reduced, free, cell, combined}
+use Rattle.lanes.specs.Lanes.{laneByte, share, countOf, roleOf, rowByte, Own, Gathered, combinedLanes}
 
 -- the first m of n zeros
 pub zeros-part : (m n : ℕ) → m ≤ n → take {A = ℕ} m (replicate n 0) ≡ replicate m 0
@@ -36,54 +40,154 @@ module _ (s : Settings) (places bytes : List ℕ) (v p : ℕ) where
   unfolding laneByte
   lane-outside h = rw (le-ltb p (nOf s) h)
 
--- byte v of the L bytes of symbol p is that of lane v
-pub part-byte : (s : Settings) (places bytes : List ℕ) (p : ℕ) → p < nOf s → (v : ℕ) → v < s .lanes
-    → getD (take (getD places p 0 + s .lanes - getD places p 0) (drop (getD places p 0) bytes)) v 0 ≡ laneByte s places bytes v p
-part-byte s places bytes p below v h =
-    let start : ℕ = getD places p 0 in
-    getD-take (start + s .lanes - start) (drop start bytes) v 0 (omega arith) ∙ getD-drop start bytes v 0
-    ∙ lane-inside s places bytes v p below
+  pub lane-below : ((j : ℕ) → getD bytes j 0 < 256) → p < nOf s → laneByte s places bytes v p < 256
+  lane-below below h = subst (λ (b : ℕ). b < 256) (lane-inside h) (below (getD places p 0 + v))
 
-module _ (s : Settings) (x : Reduced) (places bytes : List ℕ) (q r : ℕ) where
-  -- sums to which nothing is added stay
-  pub sums-stay : (sums : List ℕ) → length sums ≡ s .lanes → ((v : ℕ) → 0 ≡ share s x places bytes q r v)
-      → sums ≡ table (s .lanes) (λ v. getD sums v 0 ⊕ share s x places bytes q r v)
-  sums-stay sums exact none =
-      is-table (s .lanes) (λ v. getD sums v 0 ⊕ share s x places bytes q r v) 0 sums exact
-      (λ v h. sym (plus-zero (getD sums v 0)) ∙ ap (λ (b : ℕ). getD sums v 0 ⊕ b) (none v))
+module _ (s : Settings) (places bytes : List ℕ) (p : ℕ) where
+  -- byte v of the L bytes of symbol p is that of lane v
+  pub part-byte : p < nOf s → (v : ℕ) → v < s .lanes
+      → getD (take (getD places p 0 + s .lanes - getD places p 0) (drop (getD places p 0) bytes)) v 0 ≡ laneByte s places bytes v p
+  part-byte below v h =
+      let start : ℕ = getD places p 0 in
+      getD-take (start + s .lanes - start) (drop start bytes) v 0 (omega arith) ∙ getD-drop start bytes v 0
+      ∙ lane-inside s places bytes v p below
 
+  -- they are those of all lanes
+  pub part-table : p < nOf s → getD places p 0 + s .lanes ≤ length bytes
+      → take (getD places p 0 + s .lanes - getD places p 0) (drop (getD places p 0) bytes) ≡ table (s .lanes) (λ v. laneByte s places bytes v p)
+  part-table below inside =
+      let start : ℕ = getD places p 0 in
+      is-table (s .lanes) (λ v. laneByte s places bytes v p) 0 (take (start + s .lanes - start) (drop start bytes))
+      (omega (arith, length-take (start + s .lanes - start) (drop start bytes), length-drop start bytes)) (part-byte below)
+
+  -- and L zeros are those outside the word
+  pub zeros-table : nOf s ≤ p → s .lanes ≤ 64 → take {A = ℕ} (s .lanes) (replicate 64 0) ≡ table (s .lanes) (λ v. laneByte s places bytes v p)
+  zeros-table past few =
+      zeros-part (s .lanes) 64 few
+      ∙ is-table (s .lanes) (λ v. laneByte s places bytes v p) 0 (replicate (s .lanes) 0) (length-replicate (s .lanes) 0)
+      (λ v h. getD-replicate (s .lanes) v 0 0 h ∙ sym (lane-outside s places bytes v p past))
+
+-- the first L lanes of the weighted sum of the vectors
+module _ (s : Settings) (rows : List (List ℕ)) (q : ℕ) (pairs : List (List ℕ)) (count : ℕ) (sums : List ℕ) (made : sums ≡ weightedOf rows q pairs count) (few : s .lanes ≤ 64) where
+  pub front-inside : s .lanes ≤ length sums
+  unfolding weightedOf
+  front-inside =
+      let long : length sums ≡ 64 = ap length made ∙ length-table 64 (λ v. sum (count * 2) (λ i. getD (getD rows i []) q 0 ⊗ getD (vectorOf pairs i) v 0)) in
+      omega arith
+
+  pub front-length : length (take (s .lanes) sums) ≡ s .lanes
+  front-length = length-take-le (s .lanes) sums front-inside
+
+  pub front-lane : (v : ℕ) → v < s .lanes → getD (take (s .lanes) sums) v 0 ≡ getD (weightedOf rows q pairs count) v 0
+  front-lane v lane = getD-take (s .lanes) sums v 0 lane ∙ ap (λ (l : List ℕ). getD l v 0) made
+
+  pub front-table : take (s .lanes) sums ≡ table (s .lanes) (λ v. getD (weightedOf rows q pairs count) v 0)
+  front-table = is-table (s .lanes) (λ v. getD (weightedOf rows q pairs count) v 0) 0 (take (s .lanes) sums) front-length front-lane
+
+-- the role of a row below k, and past the k rows
+module _ (s : Settings) (roles : List ℕ) (r : ℕ) where
+  pub role-row : r < kOf s → getD roles r 16 ≡ roleOf s roles r
+  unfolding roleOf
+  role-row h = rw (lt-ltb r (kOf s) h)
+
+  pub role-past : kOf s ≤ r → 16 ≡ roleOf s roles r
+  unfolding roleOf
+  role-past h = rw (le-ltb r (kOf s) h)
+
+  -- past the k rows all bytes are 0
+  pub past-zero : (places bytes : List ℕ) (v : ℕ) → nOf s ≤ 16 → kOf s ≤ r → rowByte s roles places bytes r v ≡ 0
+  past-zero places bytes v few h =
+      ap (laneByte s places bytes v) (sym (role-past h)) ∙ lane-outside s places bytes v 16 few
+
+module _ (s : Settings) (x : Reduced) (places bytes : List ℕ) where
   -- a row that is 0 at q has no share
-  pub share-zero : cell (x .rows) r q ≡ 0 → (v : ℕ) → 0 ≡ share s x places bytes q r v
-  share-zero e v = go (free (x .roles) r)
+  pub share-zero : (q r v : ℕ) → cell (x .rows) r q ≡ 0 → share s x places bytes q r v ≡ 0
+  share-zero q r v e = go (free (x .roles) r)
     where
       byte : ℕ
       byte = laneByte s places bytes v (getD (x .roles) r 16)
 
-      go : (t : Bool) → 0 ≡ cond t 0 (byte ⊗ cell (x .rows) r q)
+      go : (t : Bool) → cond t 0 (byte ⊗ cell (x .rows) r q) ≡ 0
       go true = refl
-      go false = sym (ap (λ (b : ℕ). byte ⊗ b) e ∙ times-zero byte)
+      go false = ap (λ (b : ℕ). byte ⊗ b) e ∙ times-zero byte
 
-  module _ (inside : r < length (x .roles)) where
-    -- nor has one whose role is no position of the word
-    pub share-none : nOf s ≤ getD (x .roles) r 0 → (v : ℕ) → 0 ≡ share s x places bytes q r v
-    share-none above v = go (free (x .roles) r)
-      where
-        role : getD (x .roles) r 16 ≡ getD (x .roles) r 0
-        role = getD-default (x .roles) r 16 0 inside
+  -- a row at q by the byte at its pivot's position is its share
+  pub share-term : (q r v : ℕ) → nOf s ≤ 16 → r < kOf s → cell (x .rows) r q ⊗ rowByte s (x .roles) places bytes r v ≡ share s x places bytes q r v
+  unfolding free
+  share-term q r v few h =
+      ap (λ (p : ℕ). cell (x .rows) r q ⊗ laneByte s places bytes v p) (sym (role-row s (x .roles) r h)) ∙ go (free (x .roles) r) refl
+    where
+      here : ℕ
+      here = cell (x .rows) r q
 
-        zero : laneByte s places bytes v (getD (x .roles) r 16) ≡ 0
-        zero =
-            ap (laneByte s places bytes v) role ∙ lane-outside s places bytes v (getD (x .roles) r 0) above
+      byte : ℕ
+      byte = laneByte s places bytes v (getD (x .roles) r 16)
 
-        go : (t : Bool) → 0 ≡ cond t 0 (laneByte s places bytes v (getD (x .roles) r 16) ⊗ cell (x .rows) r q)
-        go true = refl
-        go false = sym (ap (λ (b : ℕ). b ⊗ cell (x .rows) r q) zero ∙ zero-times (cell (x .rows) r q))
+      none : free (x .roles) r ≡ true → byte ≡ 0
+      none e =
+          let role : getD (x .roles) r 16 ≡ 16 = eqb-true (getD (x .roles) r 16) 16 e in
+          lane-outside s places bytes v (getD (x .roles) r 16) (omega arith)
 
-    -- a pivot's share is its row at q by the byte at its position
-    pub share-pivot : (getD (x .roles) r 0 ≡ 16 → ⊥) → (v : ℕ)
-        → cell (x .rows) r q ⊗ laneByte s places bytes v (getD (x .roles) r 0) ≡ share s x places bytes q r v
-    share-pivot taken v =
-        let byte : ℕ = laneByte s places bytes v (getD (x .roles) r 0) in
-        rw (is-pivot x q r inside taken)
-        (times-comm (cell (x .rows) r q) byte
-        ∙ ap (λ (p : ℕ). laneByte s places bytes v p ⊗ cell (x .rows) r q) (getD-default (x .roles) r 0 16 inside))
+      go : (t : Bool) → free (x .roles) r ≡ t → here ⊗ byte ≡ cond t 0 (byte ⊗ here)
+      go true e = ap (λ (b : ℕ). here ⊗ b) (none e) ∙ times-zero here
+      go false e = times-comm here byte
+
+  -- the weighted sum of the vectors is the combined sum
+  pub weighted-combined : (pairs : List (List ℕ)) → Shape s → Gathered s (x .roles) places bytes pairs → (q v : ℕ) → v < s .lanes
+      → getD (weightedOf (x .rows) q pairs (countOf s)) v 0 ≡ combined s x (laneByte s places bytes v) q
+  unfolding weightedOf combined cell
+  weighted-combined pairs h gathered q v lane =
+      let f : ℕ → ℕ = λ r. cell (x .rows) r q ⊗ rowByte s (x .roles) places bytes r v in
+      let rest : ℕ = countOf s * 2 - kOf s in
+      let whole : countOf s * 2 ≡ kOf s + rest = omega arith in
+      getD-table 64 (λ v. sum (countOf s * 2) (λ r. cell (x .rows) r q ⊗ getD (vectorOf pairs r) v 0)) v 0 (omega arith)
+      ∙ sum-equal (countOf s * 2) (λ r. cell (x .rows) r q ⊗ getD (vectorOf pairs r) v 0) f
+      (λ r below. ap (λ (b : ℕ). cell (x .rows) r q ⊗ b) (gathered .shares r v below lane))
+      ∙ ap (λ (m : ℕ). sum m f) whole
+      ∙ sum-split (kOf s) rest f
+      ∙ ap (λ (z : ℕ). sum (kOf s) f ⊕ z)
+      (sum-zeros rest (λ i. f (kOf s + i))
+      (λ i below.
+      ap (λ (b : ℕ). cell (x .rows) (kOf s + i) q ⊗ b) (past-zero s (x .roles) (kOf s + i) places bytes v (h .symbols-few) (omega arith))
+      ∙ times-zero (cell (x .rows) (kOf s + i) q)))
+      ∙ plus-zero (sum (kOf s) f)
+      ∙ sum-equal (kOf s) f (λ r. share s x places bytes q r v) (λ r below. share-term q r v (h .symbols-few) below)
+
+  -- so in all lanes
+  pub sums-combined : (pairs : List (List ℕ)) → Shape s → Gathered s (x .roles) places bytes pairs → (q : ℕ)
+      → table (s .lanes) (λ v. getD (weightedOf (x .rows) q pairs (countOf s)) v 0) ≡ combinedLanes s x places bytes q
+  unfolding combinedLanes
+  sums-combined pairs h gathered q =
+      table-equal (s .lanes) (λ v. getD (weightedOf (x .rows) q pairs (countOf s)) v 0) (λ v. combined s x (laneByte s places bytes v) q)
+      (weighted-combined pairs h gathered q)
+
+  module _ (i : ℕ) (own : Own s x i) (role : getD (x .roles) i 16 ≡ i) (h : Shape s) (below : i < kOf s) where
+    -- row i is a pivot
+    taken : free (x .roles) i ≡ false
+    unfolding free
+    taken = ne-eqb (getD (x .roles) i 16) 16 (λ e. omega arith)
+
+    -- in a unit column
+    pub own-elsewhere : (r : ℕ) → r < kOf s → r ≢ i → cell (x .rows) r i ≡ 0
+    own-elsewhere r few ne = own role r few ∙ ap (λ (t : Bool). cond t 1 0) (ne-eqb r i ne)
+
+    own-here : cell (x .rows) i i ≡ 1
+    own-here = own role i below ∙ ap (λ (t : Bool). cond t 1 0) (eq-eqb i i refl)
+
+    -- the combined sum there is the byte itself
+    pub own-combined : ((j : ℕ) → getD bytes j 0 < 256) → (v : ℕ) → laneByte s places bytes v i ≡ combined s x (laneByte s places bytes v) i
+    unfolding combined
+    own-combined small v =
+        let byte : ℕ = laneByte s places bytes v i in
+        sym
+        (sum-single (kOf s) i (λ r. share s x places bytes i r v) below (λ r few ne. share-zero i r v (own-elsewhere r few ne))
+        ∙ ap (λ (t : Bool). cond t 0 (laneByte s places bytes v (getD (x .roles) i 16) ⊗ cell (x .rows) i i)) taken
+        ∙ ap (λ (p : ℕ). laneByte s places bytes v p ⊗ cell (x .rows) i i) role
+        ∙ ap (λ (b : ℕ). byte ⊗ b) own-here
+        ∙ times-comm byte 1
+        ∙ one-times byte (lane-below s places bytes v i small (omega arith)))
+
+    pub own-lanes : ((j : ℕ) → getD bytes j 0 < 256) → table (s .lanes) (λ v. laneByte s places bytes v i) ≡ combinedLanes s x places bytes i
+    unfolding combinedLanes
+    own-lanes small =
+        table-equal (s .lanes) (λ v. laneByte s places bytes v i) (λ v. combined s x (laneByte s places bytes v) i) (λ v lane. own-combined small v)

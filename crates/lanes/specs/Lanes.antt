@@ -1,14 +1,16 @@
 -- What elimination says of one symbol of all lanes at once. The L bytes of symbol p stand from its place on, a byte for each lane.
-use mathlib.Core.Bool.{Bool, true, false, cond, not}
-use mathlib.Core.List.{List}
-use Prim.Native.Nat.{ℕ, _+_, _≤_, _<_}
+use mathlib.Core.Path.{_≡_}
+use mathlib.Core.Bool.{Bool, true, false, cond, not, _&&_}
+use mathlib.Core.List.{List, []}
+use Prim.Native.Nat.{ℕ, _+_, _*_, _/_, _≤_, _<_}
 use lib.Dec.{T, eqb, ltb}
 use lib.ListN.{length, getD}
 use Rattle.galois.specs.Bounded.{any}
 use Rattle.galois.specs.Byte.{_⊗_}
 use Rattle.galois.specs.Table.{table}
+use Rattle.multiples.specs.Pairs.{vectorOf, Paired, weightedOf}
 use Rattle.code.specs.declared.settings.Settings.{Settings}
-use Rattle.code.specs.Settings.{accepted, nOf}
+use Rattle.code.specs.Settings.{accepted, kOf, nOf}
 use Rattle.elimination.specs.Elimination.{Reduced, free, cell, combined, clashes, differs, knownIn}
 
 -- what an answer asks: accepted settings, and L bytes from the place of each of the n symbols on
@@ -23,6 +25,42 @@ laneByte s places bytes v p = cond (ltb p (nOf s)) (getD bytes (getD places p 0 
 -- row r's share of the combined sum of lane v at position q
 abbrev pub share : Settings → Reduced → List ℕ → List ℕ → ℕ → ℕ → ℕ → ℕ
 share s x places bytes q r v = cond (free (x .roles) r) 0 (laneByte s places bytes v (getD (x .roles) r 16) ⊗ cell (x .rows) r q)
+
+-- the zeros of each pair of a table of 32 vectors are zeros
+pub record Clear (pairs : List (List ℕ)) : Type 0 where
+  pub entries : length pairs ≡ 32
+  pub zeros : (j v : ℕ) → j < 8 → v < 64 → getD (getD pairs (j * 4) []) v 0 ≡ 0
+
+-- where row i is the pivot of position i, column i is a unit
+abbrev pub Own : Settings → Reduced → ℕ → Type 0
+Own s x i = getD (x .roles) i 16 ≡ i → (r : ℕ) → r < kOf s → cell (x .rows) r i ≡ cond (eqb r i) 1 0
+
+-- the pairs that the vectors of k rows fill
+abbrev pub countOf : Settings → ℕ
+countOf s = (kOf s + 1) / 2
+
+-- the position of row r's pivot; 16 for a row that is no pivot, and past the k rows
+unfoldable pub roleOf : Settings → List ℕ → ℕ → ℕ
+roleOf s roles r = cond (ltb r (kOf s)) (getD roles r 16) 16
+
+-- the byte of lane v at the position of row r's pivot
+abbrev pub rowByte : Settings → List ℕ → List ℕ → List ℕ → ℕ → ℕ → ℕ
+rowByte s roles places bytes r v = laneByte s places bytes v (roleOf s roles r)
+
+-- a table of pairs whose vectors are the bytes at the pivots' positions
+pub record Gathered (s : Settings) (roles places bytes : List ℕ) (pairs : List (List ℕ)) : Type 0 where
+  pub clear : Clear pairs
+  pub paired : Paired (countOf s) pairs
+  pub shares : (r v : ℕ) → r < countOf s * 2 → v < s .lanes → getD (vectorOf pairs r) v 0 ≡ rowByte s roles places bytes r v
+
+-- in some lane the weighted sum of the vectors at position q is not the byte that arrived
+unfoldable pub sumClash : Settings → List (List ℕ) → List (List ℕ) → List ℕ → List ℕ → ℕ → Bool
+sumClash s rows pairs places bytes q =
+    any (s .lanes) (λ v. not (eqb (getD (weightedOf rows q pairs (countOf s)) v 0) (laneByte s places bytes v q)))
+
+-- and that at some known position
+unfoldable pub sumsClash : Settings → List (List ℕ) → List (List ℕ) → List ℕ → List ℕ → List ℕ → Bool
+sumsClash s rows pairs flags places bytes = any (nOf s) (λ q. knownIn s flags q && sumClash s rows pairs places bytes q)
 
 -- the combined sum of each lane at position q
 unfoldable pub combinedLanes : Settings → Reduced → List ℕ → List ℕ → ℕ → List ℕ

@@ -1,50 +1,48 @@
 // What elimination says of one symbol of all lanes at once.
 mod checks;
 mod sums;
+mod symbol;
 
 use checks::clashing;
 use checks::differing;
 use code::Settings;
-use sums::add_shares;
+use sums::gather;
+use symbol::write_own;
+use symbol::write_sum;
 ghost use mathlib.Core.Path.{_≡_};
 ghost use Prim.Native.Nat.{_<_};
-ghost use lib.ListN.{length, replicate};
-ghost use Rattle.code.specs.Settings.{nOf};
-ghost use Rattle.lanes.specs.Lanes.{Held, lanesSaid};
-
-// Zeros over a whole slice.
-fn clear(out: &mut [u8])
-    ensures { λ _. ⌜ now (out .exit) ≡ replicate (length (now (out .entry))) 0 ⌝ }
-{
-    let mut i: usize = 0;
-    while i < out.len() {
-        out[i] = 0;
-        i += 1;
-    }
-}
+ghost use lib.ListN.{length};
+ghost use Rattle.code.specs.Settings.{kOf};
+ghost use Rattle.lanes.specs.Lanes.{Held, Clear, Own, lanesSaid};
 
 // What elimination says of position i: 2 if some lane clashes at a position whose flag is 1, else 1 if the symbol is lost, else 0, and
-// `out` gets the shared bytes. Of the codewords, received or not, `bytes` has symbol p of lane v at place p plus v.
+// `out` gets the shared bytes. Of the codewords, received or not, `bytes` has symbol p of lane v at place p plus v. In `pairs` only the
+// zeros matter, and they stay.
 pub fn answer(
     s: Settings,
     rows: &[[u8; 16]; 16],
-    roles: [u8; 16],
-    flags: [u8; 16],
+    roles: &[u8; 16],
+    flags: &[u8; 16],
     places: &[usize; 16],
     bytes: &[u8],
     i: usize,
+    pairs: &mut [[u8; 64]; 32],
     out: &mut [u8],
 ) -> u8
-    requires { ⌜ Held s (now places) (now bytes) × (i < nOf s) × (length (now out) ≡ s .lanes) ⌝ }
-    ensures { λ r. ⌜ record { mark = r; symbol = now (out .exit) } ≡ lanesSaid s (record { rows = now (rows .entry); roles = roles }) flags (now (places .entry)) (now (bytes .entry)) i (now (out .entry)) ⌝ }
+    requires { ⌜ Held s (now places) (now bytes) × (i < kOf s) × (length (now roles) ≡ 16) × (length (now out) ≡ s .lanes) × Clear (now pairs) × Own s (record { rows = now rows; roles = now roles }) i ⌝ }
+    ensures { λ r. ⌜ (record { mark = r; symbol = now (out .exit) } ≡ lanesSaid s (record { rows = now (rows .entry); roles = now (roles .entry) }) (now (flags .entry)) (now (places .entry)) (now (bytes .entry)) i (now (out .entry))) × Clear (now (pairs .exit)) ⌝ }
 {
-    if clashing(s, rows, roles, flags, places, bytes) {
+    gather(s, roles, places, bytes, pairs);
+    if clashing(s, rows, flags, places, bytes, pairs) {
         return 2;
+    }
+    if roles[i] == i as u8 {
+        write_own(s, places, bytes, i, out);
+        return 0;
     }
     if differing(s, rows, roles, i) {
         return 1;
     }
-    clear(out);
-    add_shares(s, rows, roles, places, bytes, i, out);
+    write_sum(s, rows, pairs, i, out);
     0
 }

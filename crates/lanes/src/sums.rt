@@ -1,57 +1,71 @@
-// The sum of the pivots' rows at one position, each by the byte at its position, for all lanes at once.
+// The vectors that the pivots' rows are multiplied by: the L bytes at each pivot's position, in pairs.
 use code::Settings;
-use multiples::add_multiple;
+use multiples::join;
+use multiples::put;
 ghost use mathlib.Core.Path.{_≡_};
 ghost use Prim.Native.Nat.{_<_};
-ghost use lib.ListN.{length, getD, replicate};
-ghost use Rattle.galois.specs.Byte.{_⊕_};
+ghost use lib.ListN.{length};
 ghost use Rattle.galois.specs.Table.{table};
-ghost use Rattle.lanes.specs.Lanes.{Held, share, combinedLanes};
+ghost use Rattle.multiples.specs.Pairs.{putAt};
+ghost use Rattle.lanes.specs.Lanes.{Held, Clear, Gathered, roleOf, rowByte};
 
-// Adds row r's share at position q: nothing for a row that is no pivot, or is 0 there.
-fn add_share(
+// A byte as an index.
+fn wide(x: u8) -> usize
+    ensures { λ r. ⌜ r ≡ x ⌝ }
+{
+    x as usize
+}
+
+// The position of row r's pivot; 16 for a row that is no pivot, and past the k rows.
+fn position(s: Settings, roles: &[u8; 16], r: usize) -> usize
+    requires { ⌜ (r < 16) × (length (now roles) ≡ 16) ⌝ }
+    ensures { λ p. ⌜ p ≡ roleOf s (now (roles .entry)) r ⌝ }
+{
+    if s.sources() <= r {
+        return 16;
+    }
+    wide(roles[r])
+}
+
+// Puts the L bytes at the position of row r's pivot over vector r; zeros where it has none.
+fn put_share(
     s: Settings,
-    rows: &[[u8; 16]; 16],
-    roles: [u8; 16],
+    roles: &[u8; 16],
     places: &[usize; 16],
     bytes: &[u8],
-    q: usize,
     r: usize,
-    sums: &mut [u8],
+    pairs: &mut [[u8; 64]; 32],
 )
-    requires { ⌜ Held s (now places) (now bytes) × (q < 16) × (r < 16) × (length (now sums) ≡ s .lanes) ⌝ }
-    ensures { λ _. ⌜ now (sums .exit) ≡ table (s .lanes) (λ v. getD (now (sums .entry)) v 0 ⊕ share s (record { rows = now (rows .entry); roles = roles }) (now (places .entry)) (now (bytes .entry)) q r v) ⌝ }
+    requires { ⌜ Held s (now places) (now bytes) × (length (now roles) ≡ 16) × (r < 16) ⌝ }
+    ensures { λ _. ⌜ now (pairs .exit) ≡ putAt (now (pairs .entry)) r (table (s .lanes) (rowByte s (now (roles .entry)) (now (places .entry)) (now (bytes .entry)) r)) ⌝ }
 {
-    let role = roles[r];
-    let p = role as usize;
+    let p = position(s, roles, r);
+    let lanes = s.lanes as usize;
     if s.symbols() <= p {
-        return;
-    }
-    let c = rows[r][q];
-    if c == 0 {
+        let zeros = [0u8; 64];
+        put(pairs, r, &zeros[..lanes]);
         return;
     }
     let start = places[p];
-    let lanes = s.lanes as usize;
-    add_multiple(sums, c, &bytes[start..start + lanes]);
+    put(pairs, r, &bytes[start..start + lanes]);
 }
 
-// Adds the shares of all rows to zeros.
-pub(crate) fn add_shares(
+// Puts the vectors of all rows, and joins their pairs.
+pub(crate) fn gather(
     s: Settings,
-    rows: &[[u8; 16]; 16],
-    roles: [u8; 16],
+    roles: &[u8; 16],
     places: &[usize; 16],
     bytes: &[u8],
-    q: usize,
-    sums: &mut [u8],
+    pairs: &mut [[u8; 64]; 32],
 )
-    requires { ⌜ Held s (now places) (now bytes) × (q < 16) × (now sums ≡ replicate (s .lanes) 0) ⌝ }
-    ensures { λ _. ⌜ now (sums .exit) ≡ combinedLanes s (record { rows = now (rows .entry); roles = roles }) (now (places .entry)) (now (bytes .entry)) q ⌝ }
+    requires { ⌜ Held s (now places) (now bytes) × (length (now roles) ≡ 16) × Clear (now pairs) ⌝ }
+    ensures { λ _. ⌜ Gathered s (now (roles .entry)) (now (places .entry)) (now (bytes .entry)) (now (pairs .exit)) ⌝ }
 {
+    let count = (s.sources() + 1) / 2;
     let mut r: usize = 0;
-    while r < s.sources() {
-        add_share(s, rows, roles, places, bytes, q, r, sums);
+    while r < 2 * count {
+        put_share(s, roles, places, bytes, r, pairs);
         r += 1;
     }
+    join(pairs, count);
 }

@@ -1,2 +1,5 @@
--- The law of the columns.
-pub mod Weighing
+-- The laws of a row's multiples, of pairs and of weighted sums.
+pub mod Digits
+pub mod Multiples
+pub mod PairLaws
+pub mod Planes

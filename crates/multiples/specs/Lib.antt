@@ -1,2 +1,3 @@
 -- What the contracts of the multiples cite.
-pub mod Columns
+pub mod Quarters
+pub mod Pairs

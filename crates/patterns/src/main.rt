@@ -39,9 +39,21 @@ fn pattern(s: Settings, j: u8, x: &mut u64)
     let bytes = word::arrived(s, j, x);
     let places = [0usize, 1, 2, 3, 4, 5, 6, 7, 8, 9, 10, 11, 12, 13, 14, 15];
     let mut roles = [0u8; 16];
-    let rows = elimination::eliminate(s, code::generator(s), flags, &mut roles);
+    let mut rows = code::systematic(s);
+    elimination::eliminate(s, &mut rows, &flags, &mut roles);
+    let mut pairs = [[0u8; 64]; 32];
     let mut symbol = [0u8; 1];
-    let mark = lanes::answer(s, &rows, roles, flags, &places, &bytes, i, &mut symbol);
+    let mark = lanes::answer(
+        s,
+        &rows,
+        &roles,
+        &flags,
+        &places,
+        &bytes,
+        i,
+        &mut pairs,
+        &mut symbol,
+    );
     print_field(s.delay as u64);
     print_field(s.burst as u64);
     print_field(s.scattered as u64);

@@ -194,7 +194,7 @@ module _ (s : Settings) (ok : T (accepted s)) where
     unfolding symbolSaid quickSymbol arrived nOf
     quick-symbol i v hi =
         sym
-        (symbol-decided s (shape s ok) (arrived s rows due t i v) (λ p. small-at rows bytes _) i (omega arith))
+        (symbol-decided s ok (arrived s rows due t i v) (λ p. small-at rows bytes _) i (omega arith))
 
     -- so the verdict is the one that elimination gives
     pub quick-verdict : verdict s rows due t ≡ verdictBy s (quickSymbol s rows due t)

@@ -1,12 +1,11 @@
 // What happens to a slot's frame.
-use crate::faults;
-use crate::lent;
 use crate::random;
-use protocol::Receiver;
 
-// The receiver, and how many losses of a burst are left over.
-pub(crate) struct After {
-    pub(crate) receiver: Receiver,
+// Whether the frame is lost, the faults of a report before the true one, those of the true one, and how many losses are left over.
+pub(crate) struct Event {
+    pub(crate) lost: bool,
+    pub(crate) faults: usize,
+    pub(crate) last: usize,
     pub(crate) left: usize,
 }
 
@@ -18,94 +17,56 @@ fn faults_of(e: usize, x: &mut u64) -> usize {
         11 => 32,
         12 => 2,
         13 => random::below(x, 63) + 1,
+        15 => random::below(x, 7) + 1,
         _ => 0,
     }
 }
 
-fn damaged_or_heard(
-    before: Receiver,
-    x: &mut u64,
-    rows: &mut [u8],
-    frame: &[u8],
-    spare: &mut [u8],
-    buffer: &mut [u8],
-) -> Receiver {
-    if random::below(x, 3) == 0 {
-        return faults::damaged(before, x, rows, frame, spare, buffer);
-    }
-    lent::heard(before, lent::exact(), rows, frame, buffer)
-}
-
-// The events 0 to 5 and 8 to 13.
-fn frame_event(
-    e: usize,
-    before: Receiver,
-    x: &mut u64,
-    rows: &mut [u8],
-    frame: &[u8],
-    spare: &mut [u8],
-    buffer: &mut [u8],
-) -> Receiver {
-    if e == 8 {
-        return damaged_or_heard(before, x, rows, frame, spare, buffer);
-    }
-    let set = faults_of(e, x);
-    faults::heard(before, set, x, rows, frame, spare, buffer);
-    lent::heard(before, lent::exact(), rows, frame, buffer)
-}
-
-fn loss_faults_of(e: usize, x: &mut u64) -> usize {
-    if e != 15 {
+// The faults of the event's own report: of event 8, once in three times, a byte of the body.
+fn last_of(e: usize, x: &mut u64) -> usize {
+    if e != 8 {
         return 0;
     }
-    random::below(x, 7) + 1
+    if 0 < random::below(x, 3) {
+        return 0;
+    }
+    64
 }
 
-// The events 6, 7, 14 and 15.
-fn loss_event(
-    e: usize,
-    before: Receiver,
-    x: &mut u64,
-    rows: &mut [u8],
-    buffer: &mut [u8],
-) -> Receiver {
-    let set = loss_faults_of(e, x);
-    faults::loss(before, set, x, rows, buffer);
-    lent::loss(before, lent::exact(), rows, buffer)
-}
-
-fn left_over(e: usize, burst: u8, x: &mut u64) -> usize {
+// How many losses a burst leaves over.
+fn left_of(e: usize, burst: u8, x: &mut u64) -> usize {
     if e != 14 {
         return 0;
     }
     random::below(x, burst as usize + 2)
 }
 
-pub(crate) fn event(
-    burst: u8,
-    before: Receiver,
-    x: &mut u64,
-    rows: &mut [u8],
-    frame: &[u8],
-    spare: &mut [u8],
-    buffer: &mut [u8],
-) -> After {
-    let e = random::below(x, 16);
-    let left = left_over(e, burst, x);
+// Whether the frame is lost in this event.
+fn is_loss(e: usize) -> bool {
     match e {
-        6 | 7 | 14 | 15 => {
-            let lost = loss_event(e, before, x, rows, buffer);
-            After {
-                receiver: lost,
-                left: left,
-            }
-        }
-        _ => {
-            let heard = frame_event(e, before, x, rows, frame, spare, buffer);
-            After {
-                receiver: heard,
-                left: left,
-            }
-        }
+        6 | 7 | 14 | 15 => true,
+        _ => false,
+    }
+}
+
+// A loss that is left over, or one of the sixteen events.
+pub(crate) fn draw(left: usize, burst: u8, x: &mut u64) -> Event {
+    if 0 < left {
+        return Event {
+            lost: true,
+            faults: 0,
+            last: 0,
+            left: left - 1,
+        };
+    }
+    let e = random::below(x, 16);
+    let after = left_of(e, burst, x);
+    let set = faults_of(e, x);
+    let last = last_of(e, x);
+    Event {
+        lost: is_loss(e),
+        faults: set,
+        last: last,
+        left: after,
     }
 }

@@ -1,12 +1,12 @@
-// What is wrong with a call: a set of faults is a sum of 1, 2, 4, 8, 16 and 32. There is no call with the faults 0.
-use crate::lent;
-use crate::lent::Cuts;
+// What is wrong with a call: a set of faults is a sum of 1, 2, 4, 8, 16, 32 and 64.
 use crate::random;
 use code::Settings;
 use protocol::Receiver;
 use protocol::Sender;
+use trace::Call;
 ghost use Prim.Native.Nat.{_≤_, _<_};
 
+// The settings broken in one of six ways.
 pub(crate) fn broken(s: Settings, way: usize) -> Settings {
     let mut out = s;
     match way {
@@ -32,6 +32,7 @@ pub(crate) fn broken(s: Settings, way: usize) -> Settings {
     out
 }
 
+// The settings of a call with the fault 1, or without it.
 fn settings(s: Settings, faults: usize, x: &mut u64) -> Settings {
     if faults % 2 == 0 {
         return s;
@@ -40,15 +41,15 @@ fn settings(s: Settings, faults: usize, x: &mut u64) -> Settings {
     broken(s, way)
 }
 
-// One of so many things gets a wrong length.
-fn cuts(things: usize, faults: usize, x: &mut u64) -> Cuts
+// The call, with the fault 2 one of so many things at a wrong length.
+fn cut(exact: Call, things: usize, faults: usize, x: &mut u64) -> Call
     requires { ⌜ (0 < things) × (things ≤ 3) ⌝ }
 {
     if faults / 2 % 2 == 0 {
-        return lent::exact();
+        return exact;
     }
     let h = random::below(x, things * 2);
-    let mut out = lent::exact();
+    let mut out = exact;
     let cut = (1 - h % 2) * 2;
     match h / 2 {
         0 => {
@@ -64,11 +65,22 @@ fn cuts(things: usize, faults: usize, x: &mut u64) -> Cuts
     out
 }
 
+// The slot due of a call with the fault 4, or without it.
 fn due(slot: u32, faults: usize, x: &mut u64) -> u32 {
     if faults / 4 % 2 == 0 {
         return slot;
     }
     random::late(x)
+}
+
+// A call of so many things with the faults 1, 2 and 4.
+pub(crate) fn call(s: Settings, slot: u32, faults: usize, things: usize, x: &mut u64) -> Call
+    requires { ⌜ (0 < things) × (things ≤ 3) ⌝ }
+{
+    let wrong = settings(s, faults, x);
+    let mut out = cut(trace::exact(wrong, slot), things, faults, x);
+    out.due = due(slot, faults, x);
+    out
 }
 
 // Changes one of `count` bytes from `first` on, if the fault is 1.
@@ -86,20 +98,25 @@ fn flip(bytes: &mut [u8], fault: usize, first: usize, count: usize, x: &mut u64)
     bytes[q] = bytes[q] ^ v as u8;
 }
 
-// The faults 8, 16 and 32.
+// The length of a frame's body, at least 1, from that of a frame with one byte behind it.
+fn body(length: usize) -> usize
+    ensures { λ r. ⌜ 0 < r ⌝ }
+{
+    if length < 16 {
+        return 1;
+    }
+    length - 15
+}
+
+// The faults 8, 16, 32 and 64.
 fn change(frame: &mut [u8], faults: usize, x: &mut u64) {
     flip(frame, faults / 8 % 2, 0, 5, x);
     flip(frame, faults / 16 % 2, 5, 5, x);
     flip(frame, faults / 32 % 2, 10, 4, x);
+    flip(frame, faults / 64 % 2, 14, body(frame.len()), x);
 }
 
-fn copy(to: &mut [u8], from: &[u8]) {
-    if to.len() < from.len() {
-        return;
-    }
-    protocol::write_at(to, 0, from);
-}
-
+// A send with faults, if there are any.
 pub(crate) fn send(
     before: Sender,
     faults: usize,
@@ -111,97 +128,70 @@ pub(crate) fn send(
     if faults == 0 {
         return;
     }
-    let set = before.settings;
-    let wrong = settings(set, faults, x);
-    let lengths = cuts(3, faults, x);
-    let slot = due(before.due, faults, x);
-    lent::send(
-        Sender {
-            settings: wrong,
-            due: slot,
-        },
-        lengths,
-        rows,
-        message,
-        frame,
-    );
+    let s = before.settings;
+    trace::send(call(s, before.due, faults, 3, x), rows, message, frame);
 }
 
-pub(crate) fn heard(
-    before: Receiver,
-    faults: usize,
-    x: &mut u64,
-    rows: &mut [u8],
-    frame: &[u8],
-    spare: &mut [u8],
-    buffer: &mut [u8],
-) {
-    if faults == 0 {
-        return;
-    }
-    let set = before.settings;
-    let wrong = settings(set, faults, x);
-    let lengths = cuts(3, faults, x);
-    let slot = due(before.due, faults, x);
-    copy(spare, frame);
-    change(spare, faults, x);
-    lent::heard(
-        Receiver {
-            settings: wrong,
-            due: slot,
-        },
-        lengths,
-        rows,
-        spare,
-        buffer,
-    );
-}
-
-pub(crate) fn loss(
-    before: Receiver,
-    faults: usize,
-    x: &mut u64,
-    rows: &mut [u8],
-    buffer: &mut [u8],
-) {
-    if faults == 0 {
-        return;
-    }
-    let set = before.settings;
-    let wrong = settings(set, faults, x);
-    let lengths = cuts(2, faults, x);
-    let slot = due(before.due, faults, x);
-    lent::loss(
-        Receiver {
-            settings: wrong,
-            due: slot,
-        },
-        lengths,
-        rows,
-        buffer,
-    );
-}
-
-// The length of a frame's body, at least 1, from that of a frame with one byte behind it.
-fn body(length: usize) -> usize
-    ensures { λ r. ⌜ 0 < r ⌝ }
+// The length, and no more than there is.
+fn at_most(length: usize, size: usize) -> usize
+    ensures { λ r. ⌜ r ≤ size ⌝ }
 {
-    if length < 16 {
-        return 1;
+    if size < length {
+        return size;
     }
-    length - 15
+    length
 }
 
-// A frame with a byte of its body changed, and nothing else wrong.
-pub(crate) fn damaged(
+// Copies a frame to a place of its length, and changes the copy.
+fn copy(to: &mut [u8], from: &[u8], faults: usize, x: &mut u64) {
+    if to.len() < from.len() {
+        return;
+    }
+    protocol::write_at(to, 0, from);
+    change(to, faults, x);
+}
+
+// A changed copy of a frame, and zeros behind it.
+fn copied(frame: &[u8], end: usize, faults: usize, x: &mut u64) -> [u8; 1040]
+    requires { ⌜ end ≤ 1040 ⌝ }
+{
+    let mut spare = [0u8; 1040];
+    copy(&mut spare[0..end], frame, faults, x);
+    spare
+}
+
+// A report of a lost frame, or of a changed copy of a heard one.
+pub(crate) fn reported(
     before: Receiver,
+    lost: bool,
+    faults: usize,
     x: &mut u64,
     rows: &mut [u8],
     frame: &[u8],
-    spare: &mut [u8],
     buffer: &mut [u8],
 ) -> Receiver {
-    copy(spare, frame);
-    flip(spare, 1, 14, body(frame.len()), x);
-    lent::heard(before, lent::exact(), rows, spare, buffer)
+    let s = before.settings;
+    if lost {
+        return trace::loss(call(s, before.due, faults, 2, x), rows, buffer);
+    }
+    let wrong = call(s, before.due, faults, 3, x);
+    let end = at_most(frame.len(), 1040);
+    let spare = copied(frame, end, faults, x);
+    trace::heard(wrong, rows, &spare[0..end], buffer)
+}
+
+// A report with faults, if there are any.
+pub(crate) fn report(
+    before: Receiver,
+    lost: bool,
+    faults: usize,
+    x: &mut u64,
+    rows: &mut [u8],
+    frame: &[u8],
+    buffer: &mut [u8],
+) {
+    if faults == 0 {
+        return;
+    }
+    reported(before, lost, faults, x, rows, frame, buffer);
 }

@@ -23,6 +23,7 @@ pub(crate) fn late(x: &mut u64) -> u32 {
     4000000000 + next(x) as u32
 }
 
+// A drawn byte.
 fn byte(x: &mut u64) -> u8 {
     (next(x) % 256) as u8
 }
@@ -34,4 +35,22 @@ pub(crate) fn fill(out: &mut [u8], x: &mut u64) {
         out[q - 1] = byte(x);
         q += 1;
     }
+}
+
+// So many bytes of rows, of which the last one is 0, and zeros behind them.
+pub(crate) fn rows(count: usize, x: &mut u64) -> [u8; 32768]
+    requires { ⌜ count ≤ 32768 ⌝ }
+{
+    let mut out = [0u8; 32768];
+    fill(&mut out[0..count], x);
+    out
+}
+
+// So many bytes of a frame or a message, of which the last one is 0, and zeros behind them.
+pub(crate) fn bytes(count: usize, x: &mut u64) -> [u8; 1040]
+    requires { ⌜ count ≤ 1040 ⌝ }
+{
+    let mut out = [0u8; 1040];
+    fill(&mut out[0..count], x);
+    out
 }

@@ -3,6 +3,7 @@ use crate::random;
 use code::Settings;
 ghost use Prim.Native.Nat.{_≤_, _<_};
 
+// A flag of rows drawn anew: mostly 7.
 fn any_flag(x: &mut u64) -> u8 {
     match random::below(x, 8) {
         0 => 1,
@@ -11,6 +12,7 @@ fn any_flag(x: &mut u64) -> u8 {
     }
 }
 
+// Writes a byte at a place, if there is one.
 fn put(rows: &mut [u8], place: usize, value: u8) {
     if rows.len() <= place {
         return;
@@ -32,7 +34,7 @@ fn flag_at(rows: &mut [u8], size: usize, place: usize, x: &mut u64)
 fn flags(rows: &mut [u8], size: usize, x: &mut u64)
     requires { ⌜ 0 < size ⌝ }
 {
-    let count = crate::lent::end(rows.len(), 1);
+    let count = trace::end(rows.len(), 1);
     let mut q: usize = 0;
     while q < count {
         flag_at(rows, size, q, x);
@@ -40,12 +42,17 @@ fn flags(rows: &mut [u8], size: usize, x: &mut u64)
     }
 }
 
-// Every byte of the rows, and then the first byte of each.
-pub(crate) fn draw(s: Settings, rows: &mut [u8], x: &mut u64) {
-    random::fill(rows, x);
-    flags(rows, protocol::row_len(s), x);
+// Of lent rows, after the openings: every byte of both ends' rows, and then the first byte of each of the receiver's.
+pub(crate) fn draw(s: Settings, lent: bool, sent: &mut [u8], received: &mut [u8], x: &mut u64) {
+    if !lent {
+        return;
+    }
+    random::fill(sent, x);
+    random::fill(received, x);
+    flags(received, protocol::row_len(s), x);
 }
 
+// A flag written between two calls.
 fn some_flag(x: &mut u64) -> u8 {
     match random::below(x, 4) {
         0 => 0,
@@ -55,6 +62,7 @@ fn some_flag(x: &mut u64) -> u8 {
     }
 }
 
+// Where row r begins.
 fn row_at(s: Settings, r: usize) -> usize
     requires { ⌜ r < 32768 ⌝ }
 {

@@ -1,14 +1,15 @@
--- A symbol of a word is the sum of the word's first k symbols, each by its entry of the systematic form.
-use mathlib.Core.Path.{_≡_, sym, ap, _∙_}
+-- A symbol of a word is the sum of the word's first k symbols, each by its entry of the systematic form. The sum goes over pairs of rows.
+use mathlib.Core.Path.{_≡_, sym, ap, ap₂, _∙_}
 use mathlib.Core.Bool.{true}
 use mathlib.Core.List.{List, []}
-use Prim.Native.Nat.{ℕ, _<_}
+use Prim.Native.Nat.{ℕ, _+_, _-_, _*_, _/_, _≤_, _<_}
 use native.Mathlib.Omega.{arith}
 use lib.ListN.{getD}
-use Rattle.galois.specs.Byte.{_⊗_}
+use Rattle.galois.specs.Byte.{_⊕_, _⊗_}
 use Rattle.galois.specs.Sum.{sum}
-use Rattle.galois.proofs.ByteProduct.{times-below, times-comm, times-zero, one-times}
-use Rattle.galois.proofs.Sums.{sum-equal, sum-single, sum-below}
+use Rattle.galois.proofs.ByteProduct.{times-below, times-comm, times-zero, zero-times, one-times}
+use Rattle.galois.proofs.Xor.{plus-zero}
+use Rattle.galois.proofs.Sums.{sum-equal, sum-zeros, sum-single, sum-split, sum-below}
 use Rattle.code.specs.declared.settings.Settings.{Settings}
 use Rattle.code.specs.Settings.{accepted, kOf}
 use Rattle.galois.specs.Table.{table}
@@ -17,7 +18,8 @@ use Rattle.code.proofs.Shape.{Shape}
 use Rattle.galois.proofs.ByIndex.{getD-table}
 use Rattle.code.proofs.Words.{word-equal}
 use Rattle.code.proofs.Symbols.{multiplier-below, symbol-source}
-use Rattle.code.proofs.BackSubstitution.{unit-self, unit-other, unit-below, word-of-sum, systematic-accepted}
+use Rattle.code.proofs.BackSubstitution.{unit-self, unit-other, unit-below, unit-outside, word-of-sum, systematic-accepted}
+use Rattle.sender.specs.Gathering.{pairsOf}
 
 module _ (s : Settings) (h : Shape s) (x : ℕ → ℕ) (bytes : (r : ℕ) → x r < 256) where
   -- the sum of the units' words, each by its symbol
@@ -46,14 +48,32 @@ module _ (s : Settings) (h : Shape s) (x : ℕ → ℕ) (bytes : (r : ℕ) → x
       (λ q hq. symbol-source s h x bytes q hq ∙ sym (is-sum q ∙ combined-source q hq)) p
       ∙ is-sum p
 
-  pub symbol-systematic : accepted s ≡ true → (p : ℕ) → p < 16
-      → symbol s x p ≡ sum (kOf s) (λ r. x r ⊗ getD (getD (systematicOf s) r []) p 0)
-  symbol-systematic passed p hp =
-      symbol-combined p
-      ∙ sum-equal (kOf s) (λ r. x r ⊗ symbol s (unit r) p) (λ r. x r ⊗ getD (getD (systematicOf s) r []) p 0)
+  -- the entry of the systematic form in row i and column p
+  entry-systematic : accepted s ≡ true → (i p : ℕ) → i < 16 → p < 16 → getD (getD (systematicOf s) i []) p 0 ≡ symbol s (unit i) p
+  entry-systematic passed i p hi hp =
+      ap (λ (l : List (List ℕ)). getD (getD l i []) p 0) (sym (systematic-accepted s passed))
+      ∙ ap (λ (l : List ℕ). getD l p 0) (getD-table 16 (λ i. table 16 (λ p. symbol s (unit i) p)) i [] hi)
+      ∙ getD-table 16 (λ p. symbol s (unit i) p) p 0 hp
+
+  -- the rows from k on are zeros, so that a sum over whole pairs of rows is the symbol, whatever stands at k
+  pub symbol-systematic : accepted s ≡ true → (y : ℕ → ℕ) → ((i : ℕ) → i < kOf s → y i ≡ x i) → (p : ℕ) → p < 16
+      → sum (pairsOf s * 2) (λ i. getD (getD (systematicOf s) i []) p 0 ⊗ y i) ≡ symbol s x p
+  unfolding pairsOf
+  symbol-systematic passed y same p hp =
+      let term : ℕ → ℕ = λ i. getD (getD (systematicOf s) i []) p 0 ⊗ y i in
+      let over : ℕ = (kOf s + 1) / 2 * 2 - kOf s in
+      let few : kOf s + over ≤ 16 = omega arith in
+      let whole : (kOf s + 1) / 2 * 2 ≡ kOf s + over = omega arith in
+      ap (λ (m : ℕ). sum m term) whole
+      ∙ sum-split (kOf s) over term
+      ∙ ap (λ (z : ℕ). sum (kOf s) term ⊕ z)
+      (sum-zeros over (λ i. term (kOf s + i))
+      (λ i hi.
+      ap (λ (c : ℕ). c ⊗ y (kOf s + i)) (entry-systematic passed (kOf s + i) p (omega arith) hp ∙ unit-outside s h (kOf s + i) p (omega arith))
+      ∙ zero-times (y (kOf s + i))))
+      ∙ plus-zero (sum (kOf s) term)
+      ∙ sum-equal (kOf s) term (λ r. x r ⊗ symbol s (unit r) p)
       (λ r hr.
-      ap (λ (y : ℕ). x r ⊗ y)
-      (sym
-      (ap (λ (l : List (List ℕ)). getD (getD l r []) p 0) (sym (systematic-accepted s passed))
-      ∙ ap (λ (l : List ℕ). getD l p 0) (getD-table 16 (λ i. table 16 (λ p. symbol s (unit i) p)) r [] (omega arith))
-      ∙ getD-table 16 (λ p. symbol s (unit r) p) p 0 hp)))
+      ap₂ (λ (c b : ℕ). c ⊗ b) (entry-systematic passed r p (omega arith) hp) (same r hr)
+      ∙ times-comm (symbol s (unit r) p) (x r))
+      ∙ sym (symbol-combined p)

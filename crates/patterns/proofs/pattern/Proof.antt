@@ -1,6 +1,6 @@
 -- k is above 0, and position p of the one lane has its byte at p.
 use borrow.Author.Needs.{needs}
-use mathlib.Core.Path.{_≡_, sym}
+use mathlib.Core.Path.{_≡_, sym, ap, _∙_, subst⁻¹}
 use mathlib.Core.List.{List, [], _∷_}
 use native.Mathlib.Omega.{arith}
 use Prim.Native.Nat.{ℕ, _<_}
@@ -9,6 +9,12 @@ use Rattle.galois.specs.Table.{table}
 use Rattle.galois.proofs.ByIndex.{getD-table}
 use Rattle.code.specs.Settings.{kOf}
 use Rattle.code.proofs.Shape.{Shape, shape}
+use Rattle.elimination.specs.Elimination.{Reduced, reducedOf}
+use Rattle.elimination.proofs.OwnColumns.{own-reduced}
+use Rattle.elimination.proofs.Reductions.{systematic-reduced, reduced-roles}
+use Rattle.elimination.proofs.Terms.{both}
+use Rattle.lanes.specs.Lanes.{Own}
+use Rattle.lanes.proofs.Gathering.{clear-start}
 use Rattle.patterns.proofs.pattern.Statement.{statement}
 use Rattle.patterns.proofs.pattern.Tie as tie
 
@@ -26,17 +32,36 @@ place-at : (p : ℕ) → p < 16 → getD places p 0 ≡ p
 unfolding table
 place-at p h = getD-table 16 (λ p. p) p 0 h
 
+-- the matrix and the roles are those of elimination over the flags
+reduced : (c : tie.After-eliminate)
+    → let at = c .before .before .before .before in
+    both (c .eliminate .last .1 .0) (c .eliminate .last .1 .1 .1 .0)
+    ≡ reducedOf (at .before .before .before .before .before .before .before .before .args .s) (at .before .before .before .flags .result)
+reduced c =
+    let at = c .before .before .before .before in
+    c .eliminate .ensures
+    ∙ systematic-reduced (at .before .before .before .before .before .before .before .before .args .s) _ _ (at .systematic .ensures)
+
 answer-requires : tie.Need-answer-requires
 answer-requires c κs =
-    let start = c .before .before .before .before .before .before .before .before .before .before .before .before .before .before in
+    let at-eliminate = c .before .before .before .before .before .before .before in
+    let at-arrived = at-eliminate .before .before .before .before .before in
+    let start = at-arrived .before .before .before .before .before .before .before in
+    let s = start .args .s in
     let h = shaped start in
-    let sixteen : length (c .before .before .before .before .before .before .before .arrived .result) ≡ 16 = search needs in (
+    let flags : List ℕ = at-arrived .before .before .flags .result in
+    let source : at-arrived .before .before .before .before .below .result < kOf s = omega arith in
+    let sixteen : length (at-arrived .arrived .result) ≡ 16 = search needs in (
       record {
         settings = start .pre .0;
         inside = λ p below. let few : p < 16 = omega arith in omega (arith, place-at p few);
       },
-      omega arith,
+      source,
+      ap (λ (x : Reduced). length (x .roles)) (reduced at-eliminate) ∙ reduced-roles s (start .pre .0) flags,
       sym (start .pre .1),
+      clear-start,
+      subst⁻¹ (λ (x : Reduced). Own s x (at-arrived .before .before .before .before .below .result)) (reduced at-eliminate)
+          (own-reduced s _ source (start .pre .0) flags),
     )
 
 pub pattern-spec : {M : Type 1} → statement M

@@ -1,8 +1,7 @@
--- The loop adds one multiple a turn, or none where it is 0: before m it has cancelled the source symbols i + 1 to m - 1.
+-- The loop adds one multiple a turn: before m it has cancelled the source symbols i + 1 to m - 1.
 use borrow.Author.Needs.{needs}
 use mathlib.Core.Path.{_≡_, sym, ap, _∙_}
 use mathlib.Core.List.{List, []}
-use mathlib.Core.Logic.{⊎-elim}
 use native.Mathlib.Omega.{arith}
 use Prim.Native.Nat.{ℕ, suc, _+_, _-_, _≤_}
 use denote.Ref.{now}
@@ -10,7 +9,6 @@ use lib.ListN.{length, getD}
 use Rattle.galois.specs.Byte.{_⊕_, _⊗_}
 use Rattle.galois.specs.Sum.{sum}
 use Rattle.galois.proofs.Xor.{plus-assoc, plus-zero}
-use Rattle.galois.proofs.ByteProduct.{zero-times}
 use Rattle.galois.specs.Table.{table}
 use Rattle.galois.proofs.ByIndex.{is-table, getD-table, table-equal}
 use Rattle.code.proofs.encoder.cancelled.Statement.{statement}
@@ -37,19 +35,11 @@ reached-more row done i m p h =
     (plus-assoc (getD row p 0) (sum (m - (i + 1)) (λ e. term (i + 1 + e))) (term m)
     ∙ ap (λ (x : ℕ). getD row p 0 ⊕ (sum (m - (i + 1)) (λ e. term (i + 1 + e)) ⊕ x)) (ap term (sym last)))
 
--- nothing where the multiple is 0
-reached-same : (row : List ℕ) (done : List (List ℕ)) (i m p : ℕ) → i + 1 ≤ m → getD row m 0 ≡ 0
-    → reached row done i m p ≡ reached row done i (m + 1) p
-reached-same row done i m p h none =
-    sym (ap (λ (x : ℕ). reached row done i m p ⊕ x) (ap (λ (x : ℕ). x ⊗ getD (getD done m []) p 0) none ∙ zero-times (getD (getD done m []) p 0))
-    ∙ plus-zero (reached row done i m p))
-    ∙ reached-more row done i m p h
-
 abbrev Inv-loop : tie.InvT-loop
-Inv-loop done i k row out₀ m₀ out m = (i + 1 ≤ m) × (m ≤ k) × (out ≡ table 16 (reached row done i m))
+Inv-loop done i end row out₀ m₀ out m = (i + 1 ≤ m) × (m ≤ end) × (out ≡ table 16 (reached row done i m))
 
 abbrev μ-loop : tie.MeasureT-loop
-μ-loop done i k row out₀ m₀ out m = k - m
+μ-loop done i end row out₀ m₀ out m = end - m
 
 loop-holds : tie.Need-loop-holds Inv-loop μ-loop
 loop-holds c =
@@ -63,30 +53,30 @@ loop-holds c =
 
 loop-again : tie.Need-loop-again Inv-loop μ-loop
 loop-again c =
-    let at = c .before .before .loop in
-    let a = c .before .before .before .args in
+    let at = c .before .before .before .loop in
+    let a = c .before .before .before .before .args in
     let f : ℕ → ℕ → ℕ = reached (a .t1) (now (a .done)) (a .i) in (
       omega arith,
       omega arith,
-      ⊎-elim
-          (λ way. way .3 ∙ way .2 .ensures
+      c .plus-narrow .ensures
           ∙ table-equal 16 (λ p. getD (at .out) p 0 ⊕ getD (a .t1) (at .m) 0 ⊗ getD (getD (now (a .done)) (at .m) []) p 0) (f (at .m + 1))
           (λ p h.
           ap (λ (x : ℕ). x ⊕ getD (a .t1) (at .m) 0 ⊗ getD (getD (now (a .done)) (at .m) []) p 0)
           (ap (λ (l : List ℕ). getD l p 0) (at .inv .2) ∙ getD-table 16 (f (at .m)) p 0 h)
-          ∙ reached-more (a .t1) (now (a .done)) (a .i) (at .m) p (at .inv .0)))
-          (λ way. way .1 ∙ at .inv .2
-          ∙ table-equal 16 (f (at .m)) (f (at .m + 1))
-          (λ p _. reached-same (a .t1) (now (a .done)) (a .i) (at .m) p (at .inv .0) (way .0 .left)))
-          (c .if1 .came),
+          ∙ reached-more (a .t1) (now (a .done)) (a .i) (at .m) p (at .inv .0)),
     )
 
 returns : tie.Need-returns Inv-loop μ-loop
 returns c =
     let at = c .before .loop in
     let a = c .before .before .args in
-    let all : at .m ≡ a .k = omega arith in
+    let all : at .m ≡ a .end = omega arith in
     at .inv .2 ∙ ap (λ (m : ℕ). table 16 (reached (a .t1) (now (a .done)) (a .i) m)) all
+
+plus-narrow-requires : tie.Need-plus-narrow-requires Inv-loop μ-loop
+plus-narrow-requires c κs =
+    let at = c .before .before .loop in
+    c .before .before .before .pre .2 (at .m) (omega arith) (omega arith)
 
 pub cancelled-spec : {M : Type 1} → statement M
 cancelled-spec =
@@ -99,8 +89,7 @@ cancelled-spec =
     (λ c. omega arith)
     (λ c. omega arith)
     (λ c. omega arith)
-    (λ c. omega arith)
-    (λ c κs. search needs)
+    plus-narrow-requires
     (λ c. omega arith)
     (λ c. omega arith)
     loop-again

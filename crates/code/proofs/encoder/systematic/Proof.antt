@@ -1,6 +1,6 @@
 -- The rows are done from the last source symbol down: at i, rows i and up are the systematic form's.
 use borrow.Author.Needs.{needs}
-use mathlib.Core.Path.{_≡_, refl, sym, ap₂, _∙_, subst, subst⁻¹}
+use mathlib.Core.Path.{_≡_, refl, sym, ap, ap₂, _∙_, subst, subst⁻¹}
 use mathlib.Core.List.{List, []}
 use mathlib.Core.Logic.{⊎-elim}
 use lib.Dec.{T}
@@ -17,7 +17,7 @@ use Rattle.galois.specs.Table.{table}
 use Rattle.code.specs.Word.{symbol, unit, systematicOf}
 use Rattle.code.proofs.Shape.{Shape, shape}
 use Rattle.galois.proofs.ByIndex.{is-table, getD-table, table-equal}
-use Rattle.code.proofs.BackSubstitution.{unit-outside, row-done, systematic-accepted, systematic-refused}
+use Rattle.code.proofs.BackSubstitution.{unit-outside, generator-entry, band-end, source-narrow, row-done, systematic-accepted, systematic-refused}
 use Rattle.code.proofs.encoder.systematic.Statement.{statement}
 use Rattle.code.proofs.encoder.systematic.Tie as tie
 
@@ -50,7 +50,22 @@ loop-holds c =
     )
 
 cancelled-requires : tie.Need-cancelled-requires Inv-loop μ-loop
-cancelled-requires c κs = omega arith
+cancelled-requires c κs =
+    let at-loop = c .before .before .before .before in
+    let at = at-loop .loop in
+    let at-generator = at-loop .before .before in
+    let s = at-generator .before .before .before .args .s in
+    let shaped = at .inv .0 in
+    let j : ℕ = at .i - 1 in
+    let ends = band-end s j in (
+      ⊎-elim (λ k. omega arith) (λ k. omega arith) (ends .2),
+      omega arith,
+      λ m low high.
+          subst⁻¹ (λ (x : ℕ). x < 16)
+          (ap (λ (g : List (List ℕ)). getD (getD g j []) m 0) (at-generator .generator .ensures)
+          ∙ generator-entry s j m (omega arith) (omega arith))
+          (source-narrow s shaped j (omega arith) m (omega arith)),
+    )
 
 loop-again : tie.Need-loop-again Inv-loop μ-loop
 loop-again c =
@@ -62,9 +77,9 @@ loop-again c =
     let done : c .cancelled .result ≡ table 16 (symbol s (unit j)) =
     c .cancelled .ensures
     ∙ ap₂
-    (λ (g : List (List ℕ)) (k : ℕ).
-    table 16 (λ p. getD (getD g j []) p 0 ⊕ sum (k - (j + 1)) (λ e. getD (getD g j []) (j + 1 + e) 0 ⊗ getD (getD (at .rows) (j + 1 + e) []) p 0)))
-    (at-generator .generator .ensures) (c .before .sources2 .ensures)
+    (λ (g : List (List ℕ)) (m : ℕ).
+    table 16 (λ p. getD (getD g j []) p 0 ⊕ sum (m - (j + 1)) (λ e. getD (getD g j []) (j + 1 + e) 0 ⊗ getD (getD (at .rows) (j + 1 + e) []) p 0)))
+    (at-generator .generator .ensures) (c .before .band-end .ensures)
     ∙ row-done s (at .inv .0) j (omega arith) (at .rows) (λ r h below. at .inv .3 r (omega arith) below) in (
       at .inv .0,
       omega arith,
@@ -100,7 +115,7 @@ systematic-spec =
     (λ c. omega arith)
     (λ c. omega arith)
     (λ c. omega arith)
-    (λ c κs. search needs)
+    (λ c κs. omega arith)
     cancelled-requires
     (λ c. omega arith)
     (λ c. omega arith)

@@ -1,14 +1,39 @@
--- The number stands where the position is below the end.
+-- The factor is 1 where the position is below the end, and 0 from the end on.
+use borrow.Author.Needs.{needs}
 use borrow.Author.Tests.{lt-ltb, le-ltb}
+use mathlib.Core.Path.{_≡_, ap, _∙_}
+use mathlib.Core.Bool.{cond}
+use mathlib.Core.Logic.{⊎-elim}
+use native.Mathlib.Nat.{mod-lt, mul-one, mul-zero, zero-lt-suc}
 use native.Mathlib.Omega.{arith}
+use Prim.Native.Nat.{ℕ, _+_, _-_, _*_, _/_, _%_, _<_, _≤_}
+use lib.Dec.{ltb}
+use Rattle.galois.proofs.Cases.{le-or-lt}
+use Rattle.galois.proofs.Xor.{by-bit}
 use Rattle.code.proofs.matrix.before_end.Statement.{statement}
 use Rattle.code.proofs.matrix.before_end.Tie as tie
 
-returns : tie.Need-returns
-returns c = let a = c .before .args in rw (lt-ltb (a .position) (a .end) (omega arith))
+kept : (end position number : ℕ) → end ≤ 16 → position < 16
+    → number * ((end + 15 - position) / 16 % 2) ≡ cond (ltb position end) number 0
+kept end position number he hp =
+    ⊎-elim
+    (λ late.
+    let none : (end + 15 - position) / 16 % 2 ≡ 0 = omega arith in
+    rw (le-ltb position end late) (ap (λ (q : ℕ). number * q) none ∙ mul-zero number))
+    (λ early.
+    let one : (end + 15 - position) / 16 % 2 ≡ 1 = omega arith in
+    rw (lt-ltb position end early) (ap (λ (q : ℕ). number * q) one ∙ mul-one number))
+    (le-or-lt end position)
 
-returns-2 : tie.Need-returns-2
-returns-2 c = let a = c .before .args in rw (le-ltb (a .position) (a .end) (omega arith))
+mul-result : tie.Need-mul-result
+mul-result c =
+    let a = c .args in
+    let bound : a .number * ((a .end + 15 - a .position) / 16 % 2) < 256 =
+    by-bit 256 (a .number) ((a .end + 15 - a .position) / 16 % 2) (search needs) (mod-lt ((a .end + 15 - a .position) / 16) (zero-lt-suc 1)) in
+    search (needs, bound)
+
+returns : tie.Need-returns
+returns c = let a = c .args in kept (a .end) (a .position) (a .number) (c .pre .0) (c .pre .1)
 
 pub before-end-spec : {M : Type 1} → statement M
-before-end-spec = tie.close (tie.spec returns returns-2)
+before-end-spec = tie.close (tie.spec (λ c. omega arith) (λ c. omega arith) mul-result returns)

@@ -19,7 +19,7 @@ use Rattle.code.specs.Matrix.{entry, generatorOf}
 use Rattle.code.specs.Span.{span}
 use Rattle.code.proofs.Shape.{Shape, shape}
 use Rattle.code.proofs.Entries.{entry-row-outside}
-use Rattle.code.proofs.Spans.{span-before}
+use Rattle.code.proofs.Spans.{spans-narrow, span-before}
 use Rattle.code.proofs.matrix.generator.Statement.{statement}
 use Rattle.code.proofs.matrix.generator.Tie as tie
 
@@ -63,6 +63,14 @@ generator-row-requires c κs =
           ∙ getD-table 16 (λ i. table 16 (λ j. span 0 i j)) (at .i - 1) [] (omega arith),
       at .inv .5 ∙ ap₂ (λ (a e : ℕ). table 16 (λ j. span a e j)) start points,
     )
+
+-- the next point and the products above a row are narrow
+with-point-requires : tie.Need-with-point-requires Inv-loop μ-loop
+with-point-requires c κs =
+    let at-loop = c .before .before .before .before in
+    let at = at-loop .loop in
+    let s = at-loop .before .before .before .before .before .args .s in
+    (omega arith, spans-narrow (at .i + s .scattered - 1) (kOf s - at .i) (at .above) (at .inv .5))
 
 loop-again : tie.Need-loop-again Inv-loop μ-loop
 loop-again c =
@@ -117,10 +125,9 @@ generator-spec =
     (λ c. omega arith)
     (λ c. omega arith)
     (λ c. omega arith)
-    (λ c. search needs)
     (λ c. omega arith)
     (λ c. omega arith)
-    (λ c κs. search needs)
+    with-point-requires
     (λ c. omega arith)
     loop-again
     returns-2)

@@ -1,6 +1,6 @@
 -- A row from d on is the spread form's up to its end; in a row below d, α is written past the spread form's first T entries.
 use borrow.Author.Needs.{needs}
-use mathlib.Core.Path.{_≡_, sym, ap, _∙_, subst, subst⁻¹}
+use mathlib.Core.Path.{_≡_, refl, sym, ap, _∙_, subst, subst⁻¹}
 use mathlib.Core.Bool.{true, cond}
 use mathlib.Core.List.{List}
 use mathlib.Core.Logic.{_≢_, ⊎-elim}
@@ -22,7 +22,7 @@ use Rattle.code.specs.Matrix.{entry, spread}
 use Rattle.code.specs.Span.{span}
 use Rattle.code.proofs.Shape.{Shape, shape}
 use Rattle.code.proofs.Entries.{entry-position-outside, entry-spread-before, entry-spread-row, entry-alpha, entry-beside}
-use Rattle.code.proofs.Spans.{spread-above}
+use Rattle.code.proofs.Spans.{spans-narrow, spread-above}
 use Rattle.code.proofs.matrix.generator_row.Statement.{statement}
 use Rattle.code.proofs.matrix.generator_row.Tie as tie
 
@@ -75,39 +75,70 @@ module _ (s : Settings) (h : Shape s) (i : ℕ) (hi : i < kOf s) (below above : 
       (λ after. beside j hj (λ at. omega arith)) (eq-or-lt-of-le from))
       (λ before. beside j hj (λ at. omega arith)) (le-or-lt (delayOf s + i) j))
 
-returns : tie.Need-returns
-returns c =
-    let start = c .before .before .before .before in
+  -- the first T entries of the row up to n are the row up to T
+  first-entries : (l : List ℕ) → l ≡ table 16 (ended i (nOf s) below above)
+      → table 16 (λ j. cond (ltb j (delayOf s)) (getD l j 0) 0) ≡ table 16 (ended i (delayOf s) below above)
+  first-entries l same =
+      table-equal 16 (λ j. cond (ltb j (delayOf s)) (getD l j 0) 0) (ended i (delayOf s) below above)
+      (λ j hj.
+      ⊎-elim (λ late. rw (le-ltb j (delayOf s) late) refl)
+      (λ early.
+      rw (lt-ltb j (delayOf s) early)
+      (ap (λ (l : List ℕ). getD l j 0) same ∙ getD-table 16 (ended i (nOf s) below above) j 0 hj
+      ∙ rw (lt-ltb j (nOf s) (omega arith)) refl))
+      (le-or-lt (delayOf s) j))
+
+spread-row-requires : tie.Need-spread-row-requires
+spread-row-requires c κs =
+    let start = c .before in
     let a = start .args in
     let pre = start .pre in
-    c .spread-row .ensures ∙ ap (λ (n : ℕ). table 16 (ended (a .row) n (a .below) (a .above))) (c .before .symbols .ensures)
+    let shaped = shape-of (a .s) (pre .0) in (
+      omega arith,
+      omega arith,
+      spans-narrow 0 (a .row) (a .below) (pre .2),
+      spans-narrow (a .row + a .s .scattered) (kOf (a .s) - (a .row + 1)) (a .above) (pre .3),
+    )
+
+returns : tie.Need-returns
+returns c =
+    let at-row = c .before .before in
+    let start = at-row .before .before in
+    let a = start .args in
+    let pre = start .pre in
+    at-row .spread-row .ensures ∙ ap (λ (n : ℕ). table 16 (ended (a .row) n (a .below) (a .above))) (at-row .before .symbols .ensures)
     ∙ table-equal 16 (ended (a .row) (nOf (a .s)) (a .below) (a .above)) (λ j. entry (a .s) (a .row) j)
     (spread-entry (a .s) (shape-of (a .s) (pre .0)) (a .row) (pre .1) (a .below) (a .above) (pre .2) (pre .3) (omega arith))
 
 returns-2 : tie.Need-returns-2
 unfolding alpha
 returns-2 c =
-    let start = c .before .before .before .before in
+    let at-row = c .before .before .before .before in
+    let start = at-row .before .before in
     let a = start .args in
     let pre = start .pre in
+    let shaped = shape-of (a .s) (pre .0) in
     let delay = c .before .effective-delay .ensures in
-    ap (λ (t : ℕ). set (c .spread-row2 .result) (t + a .row) alpha) delay
-    ∙ with-alpha (a .s) (shape-of (a .s) (pre .0)) (a .row) (pre .1) (a .below) (a .above) (pre .2) (pre .3) (omega arith)
-    (c .spread-row2 .result)
-    (c .spread-row2 .ensures ∙ ap (λ (t : ℕ). table 16 (ended (a .row) t (a .below) (a .above))) delay)
+    let row = at-row .spread-row .result in
+    let spread : row ≡ table 16 (ended (a .row) (nOf (a .s)) (a .below) (a .above)) =
+    at-row .spread-row .ensures ∙ ap (λ (n : ℕ). table 16 (ended (a .row) n (a .below) (a .above))) (at-row .before .symbols .ensures) in
+    ap (λ (t : ℕ). set (c .up-to .result) (t + a .row) alpha) delay
+    ∙ with-alpha (a .s) shaped (a .row) (pre .1) (a .below) (a .above) (pre .2) (pre .3) (omega arith) (c .up-to .result)
+    (c .up-to .ensures ∙ ap (λ (t : ℕ). table 16 (λ j. cond (ltb j t) (getD row j 0) 0)) delay
+    ∙ first-entries (a .s) shaped (a .row) (pre .1) (a .below) (a .above) (pre .2) (pre .3) row spread)
 
 pub generator-row-spec : {M : Type 1} → statement M
 generator-row-spec =
     tie.close
     (tie.spec
     (λ c κs. search needs)
+    (λ c. let start = c .before in omega (arith, shape-of (start .args .s) (start .pre .0)))
+    spread-row-requires
     (λ c κs. search needs)
-    (λ c. let start = c .before .before .before in omega (arith, shape-of (start .args .s) (start .pre .0)))
-    (λ c κs. let start = c .before .before .before in omega (arith, shape-of (start .args .s) (start .pre .0)))
     returns
     (λ c κs. search needs)
-    (λ c κs. let start = c .before .before .before in omega (arith, shape-of (start .args .s) (start .pre .0)))
+    (λ c κs. let start = c .before .before .before .before .before in omega (arith, shape-of (start .args .s) (start .pre .0)))
     (λ c. search needs)
-    (λ c. let start = c .before .before .before .before in omega (arith, shape-of (start .args .s) (start .pre .0)))
-    (λ c. let start = c .before .before .before .before in omega (arith, shape-of (start .args .s) (start .pre .0)))
+    (λ c. let start = c .before .before .before .before .before .before in omega (arith, shape-of (start .args .s) (start .pre .0)))
+    (λ c. let start = c .before .before .before .before .before .before in omega (arith, shape-of (start .args .s) (start .pre .0)))
     returns-2)

@@ -1,12 +1,14 @@
 -- The loop fills the products from the front.
-use borrow.Author.Needs.{needs}
-use mathlib.Core.Path.{_≡_, refl, ap, _∙_}
+use mathlib.Core.Path.{_≡_, refl, sym, ap, _∙_, subst}
 use native.Mathlib.Nat.{not-suc-le-zero}
 use native.Mathlib.Omega.{arith}
 use Prim.Native.Nat.{ℕ, _-_, _<_, _≤_, zero-le}
 use lib.ListN.{length, getD, length-set}
 use Rattle.galois.specs.Narrow.{_⊞_, _⊠_}
+use Rattle.galois.specs.Byte.{_⊕_}
+use Rattle.galois.proofs.NarrowField.{narrow-plus}
 use Rattle.galois.proofs.ByIndex.{is-table, filled-more}
+use Rattle.code.proofs.Rows.{plus-narrow}
 use Rattle.code.proofs.matrix.with_point.Statement.{statement}
 use Rattle.code.proofs.matrix.with_point.Tie as tie
 
@@ -18,13 +20,27 @@ abbrev μ-loop : tie.MeasureT-loop
 μ-loop point products out₀ j₀ out j = 16 - j
 
 loop-again : tie.Need-loop-again Inv-loop μ-loop
+unfolding _⊕_
 loop-again c =
-    let at = c .before .before .before .loop in
-    let a = c .before .before .before .before .args in (
+    let at = c .before .before .loop in
+    let start = c .before .before .before in
+    let a = start .args in (
       omega arith,
       simp length-set (at .inv .1),
-      filled-more (λ i. getD (a .t1) i 0 ⊠ (i ⊞ a .point)) 0 (at .out) (at .j) (c .product .result .0) (omega arith)
-          (c .product .ensures ∙ ap (λ (x : ℕ). getD (a .t1) (at .j) 0 ⊠ x) (c .before .shifted .ensures)) (at .inv .2),
+      filled-more (λ i. getD (a .t1) i 0 ⊠ (i ⊞ a .point)) 0 (at .out) (at .j) (c .narrow-product .result .0) (omega arith)
+          (c .narrow-product .ensures
+          ∙ ap (λ (x : ℕ). getD (a .t1) (at .j) 0 ⊠ x) (sym (narrow-plus (at .j) (a .point) (omega arith) (start .pre .0)))) (at .inv .2),
+    )
+
+-- a sum of narrow numbers is narrow
+narrow-product-requires : tie.Need-narrow-product-requires Inv-loop μ-loop
+unfolding _⊕_
+narrow-product-requires c κs =
+    let at = c .before .loop in
+    let start = c .before .before in (
+      start .pre .1 (at .j) (omega arith),
+      subst (λ (x : ℕ). x < 16) (narrow-plus (at .j) (start .args .point) (omega arith) (start .pre .0))
+          (plus-narrow (at .j) (start .args .point)),
     )
 
 returns : tie.Need-returns Inv-loop μ-loop
@@ -42,8 +58,7 @@ with-point-spec =
     (λ c. (zero-le, refl, λ i h. absurd (not-suc-le-zero h)))
     (λ c. omega arith)
     (λ c. omega arith)
-    (λ c κs. search needs)
-    (λ c κs. search needs)
+    narrow-product-requires
     (λ c. omega arith)
     (λ c. omega arith)
     (λ c. omega arith)

@@ -21,18 +21,18 @@ returns c =
 
 returns-2 : tie.Need-returns-2
 returns-2 c =
-    let a = c .before .before .before .before .before .args in
+    let a = c .before .before .before .before .before .before .args in
     let x = both (now (a .rows)) (now (a .roles)) in
     no-pivot-step (a .k) (a .p) x (eqb (a .flag) 1) (eq-eqb (a .flag) 1 (omega arith))
     (omega (arith, c .before .pivot-row .ensures))
 
 returns-3 : tie.Need-returns-3
 returns-3 c =
-    let a = c .before .before .before .before .before .before .before .args in
+    let a = c .before .before .before .before .before .before .before .before .args in
     let x = both (now (a .rows)) (now (a .roles)) in
     let found : c .before .before .before .pivot-row .result ≡ pivotFrom x (a .p) 0 (a .k) = c .before .before .before .pivot-row .ensures in
     ap₂ both (c .clear-column .ensures) refl
-    ∙ ap (λ (r : ℕ). both (cleared (now (a .rows)) r (a .p)) (set (now (a .roles)) r (a .p))) found
+    ∙ ap (λ (r : ℕ). both (cleared (a .k) (now (a .rows)) r (a .p)) (set (now (a .roles)) r (a .p))) found
     ∙ pivot-step (a .k) (a .p) x (eqb (a .flag) 1) (eq-eqb (a .flag) 1 (omega arith)) (omega arith)
 
 pub column-step-spec : {M : Type 1} → statement M

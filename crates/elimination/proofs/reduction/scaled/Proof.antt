@@ -1,4 +1,4 @@
--- Division by the entry at p is multiplication by 1 divided by it, and by 1 it changes nothing.
+-- Division by the entry at p is multiplication by its reciprocal, and by 1 it changes nothing.
 use borrow.Author.Needs.{needs}
 use mathlib.Core.Path.{ap, _∙_}
 use Prim.Native.Nat.{ℕ}
@@ -19,7 +19,7 @@ returns-2 : tie.Need-returns-2
 returns-2 c =
     let a = c .before .before .before .args in
     c .row-times .ensures
-    ∙ ap (λ (y : ℕ). table 16 (λ j. y ⊗ getD (a .t1) j 0)) (c .before .quotient .ensures)
+    ∙ ap (λ (y : ℕ). table 16 (λ j. y ⊗ getD (a .t1) j 0)) (c .before .reciprocal .ensures)
     ∙ row-divided (a .t1) (getD (a .t1) (a .p) 0)
 
 pub scaled-spec : {M : Type 1} → statement M

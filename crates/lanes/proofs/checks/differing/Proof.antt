@@ -17,19 +17,19 @@ use Rattle.lanes.proofs.checks.differing.Statement.{statement}
 use Rattle.lanes.proofs.checks.differing.Tie as tie
 
 abbrev Inv-loop : tie.InvT-loop
-Inv-loop s rows i roles r₀ r =
+Inv-loop s rows roles i r₀ r =
     (r ≤ kOf s) × ((q : ℕ) → q < r → T (freeDiffers (both rows roles) i q) → ⊥)
 
 abbrev μ-loop : tie.MeasureT-loop
-μ-loop s rows i roles r₀ r = kOf s - r
+μ-loop s rows roles i r₀ r = kOf s - r
 
 returns : tie.Need-returns Inv-loop μ-loop
 unfolding differs cell
 returns c =
-    let at-loop = c .before .before .before .before .before in
+    let at-loop = c .before .before .before .before .before .before in
     let at = at-loop .loop in
     let a = at-loop .before .args in
-    let x = both (now (a .rows)) (a .t3) in
+    let x = both (now (a .rows)) (now (a .roles)) in
     sym
     (any-one (kOf (a .s)) (freeDiffers x (a .i)) (at .r) (omega arith)
     (test-passes (free (x .roles) (at .r)) (cell (x .rows) (at .r) (a .i)) 0
@@ -38,10 +38,10 @@ returns c =
 loop-again : tie.Need-loop-again Inv-loop μ-loop
 unfolding cell
 loop-again c =
-    let at-loop = c .before .before .before in
+    let at-loop = c .before .before .before .before in
     let at = at-loop .loop in
     let a = at-loop .before .args in
-    let x = both (now (a .rows)) (a .t3) in
+    let x = both (now (a .rows)) (now (a .roles)) in
     let f = free (x .roles) (at .r) in
     let e = cell (x .rows) (at .r) (a .i) in (
       omega arith,
@@ -56,7 +56,7 @@ returns-2 c =
     let at = c .before .before .loop in
     let a = c .before .before .before .args in
     sym
-    (any-none (kOf (a .s)) (freeDiffers (both (now (a .rows)) (a .t3)) (a .i))
+    (any-none (kOf (a .s)) (freeDiffers (both (now (a .rows)) (now (a .roles))) (a .i))
     (λ q h. at .inv .1 q (omega arith)))
 
 pub differing-spec : {M : Type 1} → statement M

@@ -13,8 +13,11 @@ pub draw-spec : {M : Type 1} → statement M
 draw-spec =
     tie.close
     (tie.spec
+    (λ c. search needs)
+    (λ c κs. search needs)
     (λ c κs. search needs)
     (λ c κs. search needs)
     flags-requires
+    (λ c. search needs)
     (λ c. search needs)
     (λ c. search needs))

@@ -1,0 +1,31 @@
+-- The loop counts to nine.
+use borrow.Author.Needs.{needs}
+use mathlib.Core.Path.{_≡_, refl}
+use native.Mathlib.Omega.{arith}
+use Prim.Native.Nat.{_-_, _≤_, zero-le}
+use lib.ListN.{length}
+use Rattle.scenarios.proofs.openings.of_sender.Statement.{statement}
+use Rattle.scenarios.proofs.openings.of_sender.Tie as tie
+
+abbrev Inv-loop : tie.InvT-loop
+Inv-loop s rows₀ x₀ r₀ rows x r = (r ≤ 9) × (length rows ≡ length rows₀)
+
+abbrev μ-loop : tie.MeasureT-loop
+μ-loop s rows₀ x₀ r₀ rows x r = 9 - r
+
+pub of-sender-spec : {M : Type 1} → statement M
+of-sender-spec =
+    tie.close
+    (tie.spec
+    Inv-loop
+    μ-loop
+    (λ c. (zero-le, refl))
+    (λ c κs. search needs)
+    (λ c κs. search needs)
+    (λ c κs. search needs)
+    (λ c. omega arith)
+    (λ c. omega arith)
+    (λ c. (omega arith, omega arith))
+    (λ c κs. search needs)
+    (λ c. omega arith)
+    (λ c. search needs))

@@ -1,0 +1,2 @@
+-- What the contracts of the sender's functions cite.
+pub mod Gathering

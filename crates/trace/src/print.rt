@@ -1,0 +1,160 @@
+// The parts of a line. Each but the first has a space before it.
+use code::Settings;
+use protocol::Answer;
+use protocol::Cause;
+use protocol::Reply;
+ghost use Prim.Native.Nat.{_≤_, _<_};
+ghost use lib.ListN.{length};
+
+// A number.
+fn number(n: u64) {
+    io::write_all(1, b" ");
+    io::print_decimal(1, n);
+}
+
+// The settings and the slot due.
+fn state(s: Settings, due: u32) {
+    number(s.window as u64);
+    number(s.delay as u64);
+    number(s.burst as u64);
+    number(s.scattered as u64);
+    number(s.lanes as u64);
+    number(due as u64);
+}
+
+// The number of a cause.
+fn cause(c: Cause) {
+    match c {
+        Cause::BadSettings => {
+            number(1);
+        }
+        Cause::BadLength => {
+            number(2);
+        }
+        Cause::PastLastSlot => {
+            number(3);
+        }
+        Cause::OtherMark => {
+            number(4);
+        }
+        Cause::OtherSettings => {
+            number(5);
+        }
+        Cause::OtherSlot => {
+            number(6);
+        }
+    }
+}
+
+// The outcome of an opening or a send.
+fn answer(a: Answer) {
+    match a {
+        Answer::Accepted => {
+            io::write_all(1, b" ok");
+        }
+        Answer::Refused(c) => {
+            cause(c);
+        }
+    }
+}
+
+// The outcome of a report.
+fn reply(a: Reply) {
+    match a {
+        Reply::Refused(c) => {
+            cause(c);
+        }
+        Reply::NoneYet => {
+            io::write_all(1, b" none");
+        }
+        Reply::Whole => {
+            io::write_all(1, b" whole");
+        }
+        Reply::Lost => {
+            io::write_all(1, b" lost");
+        }
+        Reply::Clash => {
+            io::write_all(1, b" clash");
+        }
+    }
+}
+
+// A byte as a wide number.
+fn wide(b: u8) -> u64
+    ensures { λ r. ⌜ r < 256 ⌝ }
+{
+    b as u64
+}
+
+// A byte counts once for itself and once for each byte before it: from the end on, the sum so far is added for each byte.
+fn sum(bytes: &[u8], count: usize) -> u64
+    requires { ⌜ count ≤ length (now bytes) ⌝ }
+{
+    let mut tail: u64 = 0;
+    let mut total: u64 = 0;
+    let mut q = count;
+    while 0 < q {
+        q -= 1;
+        tail = (tail + wide(bytes[q])) % 65521;
+        total = (total + tail) % 65521;
+    }
+    total
+}
+
+// The sum of all bytes but the last one.
+fn sum_of(bytes: &[u8]) {
+    let count = crate::lent::end(bytes.len(), 1);
+    number(sum(bytes, count));
+}
+
+// The end of a line.
+fn line_end() {
+    io::write_all(1, b"\n");
+}
+
+// The line of an opening after its first word.
+pub(crate) fn opened(a: Answer, s: Settings, due: u32, rows: &[u8]) {
+    answer(a);
+    state(s, due);
+    sum_of(rows);
+    line_end();
+}
+
+// The line of a send after its first word.
+pub(crate) fn sent(a: Answer, s: Settings, due: u32, frame: &[u8], rows: &[u8]) {
+    answer(a);
+    state(s, due);
+    sum_of(frame);
+    sum_of(rows);
+    line_end();
+}
+
+// The line of a report after its first word.
+pub(crate) fn reported(r: Reply, s: Settings, due: u32, buffer: &[u8], rows: &[u8]) {
+    reply(r);
+    state(s, due);
+    sum_of(buffer);
+    sum_of(rows);
+    line_end();
+}
+
+// The kind of a scenario.
+fn kind(lent: bool) {
+    if lent {
+        io::write_all(1, b" lent");
+        return;
+    }
+    io::write_all(1, b" fresh");
+}
+
+// The first line of a scenario.
+pub fn title(s: Settings, lent: bool, start: u32) {
+    io::write_all(1, b"scenario");
+    number(s.delay as u64);
+    number(s.burst as u64);
+    number(s.scattered as u64);
+    number(s.lanes as u64);
+    kind(lent);
+    number(start as u64);
+    line_end();
+}
