@@ -1,15 +1,16 @@
 -- The spread form by products over spans of points: the quotient of the product at a position by the product at the row.
 use mathlib.Core.Path.{_≡_, refl, sym, ap, ap₂, _∙_, subst⁻¹}
 use mathlib.Core.Bool.{Bool, true, false, cond, _&&_}
-use mathlib.Core.List.{List, []}
+use mathlib.Core.List.{List, [], _∷_}
 use Prim.Native.Nat.{ℕ, zero, suc, _+_, _-_, _≤_, _<_}
+use native.Mathlib.Nat.{not-suc-le-zero, le-of-suc-le-suc}
 use native.Mathlib.Omega.{arith}
 use lib.Dec.{T, eqb, eqb→eq, lit<}
 use lib.ListN.{length, getD}
 use Rattle.galois.specs.Bounded.{every}
 use Rattle.galois.specs.Narrow.{narrow, _⊞_, timesZ, timesBits, _⊠_, narrowReciprocals, narrowReciprocal, narrowQuotient}
 use Rattle.galois.specs.Table.{table}
-use Rattle.galois.proofs.Cases.{at, equal, equal₂, and-left, and-right}
+use Rattle.galois.proofs.Cases.{equal, equal₂, and-left, and-right}
 use Rattle.galois.proofs.ByIndex.{is-table, getD-table}
 use Rattle.galois.proofs.NarrowField.{narrows}
 use Rattle.code.specs.declared.settings.Settings.{Settings}
@@ -147,28 +148,75 @@ spread-above s h i hi below above b e j hj =
 
 -- ---- a table of products over the points below each row
 
--- the table has 16 rows, each of 16 entries, the products at its positions
+-- a row of 16 entries, each with one more point than the row before it has
+unfoldable pub rowFollows : ℕ → List ℕ → List ℕ → Bool
+rowFollows m row next = eqb (length next) 16 && every 16 (λ j. eqb (getD next j 0) (getD row j 0 ⊠ (j ⊞ m)))
+
+-- rows that follow row m, each the one before it
+unfoldable pub rowsFollow : ℕ → List ℕ → List (List ℕ) → Bool
+rowsFollow m row [] = true
+rowsFollow m row (next ∷ rest) = rowFollows m row next && rowsFollow (suc m) next rest
+
+-- a row of 16 ones, and the 15 rows that follow it
 unfoldable pub spanTable : List (List ℕ) → Bool
-spanTable t =
-    eqb (length t) 16
-    && every 16 (λ i. eqb (length (getD t i [])) 16 && every 16 (λ j. eqb (getD (getD t i []) j 0) (span 0 i j)))
+spanTable [] = false
+spanTable (row ∷ rest) =
+    (eqb (length row) 16 && every 16 (λ j. eqb (getD row j 0) 1)) && (eqb (length rest) 15 && rowsFollow 0 row rest)
 
 -- what holds where a test passes, as an equation that computes once the test does
 where-passed : (p : Bool) (x y : List (List ℕ)) → (T p → x ≡ y) → x ≡ cond p y x
 where-passed true x y h = h tt
 where-passed false x y h = refl
 
+-- a row of the products over the points below m, and the row that follows it
+row-spans : (m : ℕ) (row next : List ℕ) → row ≡ table 16 (λ j. span 0 m j) → T (rowFollows m row next)
+    → next ≡ table 16 (λ j. span 0 (suc m) j)
+unfolding rowFollows span
+row-spans m row next before rule =
+    let sixteen : Bool = eqb (length next) 16 in
+    let products : Bool = every 16 (λ j. eqb (getD next j 0) (getD row j 0 ⊠ (j ⊞ m))) in
+    let point : m ≡ 0 + m = omega arith in
+    is-table 16 (λ j. span 0 m j ⊠ (j ⊞ (0 + m))) 0 next (eqb→eq (length next) 16 (and-left sixteen products rule))
+    (λ j h.
+    equal 16 (λ j. getD next j 0) (λ j. getD row j 0 ⊠ (j ⊞ m)) (and-right sixteen products rule) j h
+    ∙ ap₂ (λ (x p : ℕ). x ⊠ (j ⊞ p))
+    (ap (λ (l : List ℕ). getD l j 0) before ∙ getD-table 16 (λ j. span 0 m j) j 0 h) point)
+
+-- and all rows that follow it
+rows-spans : (rest : List (List ℕ)) (m : ℕ) (row : List ℕ) → row ≡ table 16 (λ j. span 0 m j) → T (rowsFollow m row rest)
+    → (i p : ℕ) → i < length rest → p ≡ suc m + i → getD rest i [] ≡ table 16 (λ j. span 0 p j)
+unfolding rowsFollow
+rows-spans [] m row before rule i p h e = absurd (not-suc-le-zero h)
+rows-spans (next ∷ rest) m row before rule zero p h e =
+    let same : suc m ≡ p = omega arith in
+    row-spans m row next before (and-left (rowFollows m row next) (rowsFollow (suc m) next rest) rule)
+    ∙ ap (λ (q : ℕ). table 16 (λ j. span 0 q j)) same
+rows-spans (next ∷ rest) m row before rule (suc i) p h e =
+    let follows = and-left (rowFollows m row next) (rowsFollow (suc m) next rest) rule in
+    rows-spans rest (suc m) next (row-spans m row next before follows)
+    (and-right (rowFollows m row next) (rowsFollow (suc m) next rest) rule) i p (le-of-suc-le-suc h) (omega arith)
+
 -- the rule of the table: where that one test over it passes, its rows hold the products over the points below them
 pub table-spans : (t : List (List ℕ)) → t ≡ cond (spanTable t) (table 16 (λ i. table 16 (λ j. span 0 i j))) t
-unfolding spanTable
-table-spans t =
-    let sixteen : ℕ → Bool = λ i. eqb (length (getD t i [])) 16 in
-    let products : ℕ → Bool = λ i. every 16 (λ j. eqb (getD (getD t i []) j 0) (span 0 i j)) in
-    let rows : Bool = every 16 (λ i. sixteen i && products i) in
-    where-passed (spanTable t) t (table 16 (λ i. table 16 (λ j. span 0 i j)))
+unfolding spanTable span
+table-spans [] = refl
+table-spans (row ∷ rest) =
+    let sixteen : Bool = eqb (length row) 16 in
+    let ones : Bool = every 16 (λ j. eqb (getD row j 0) 1) in
+    let fifteen : Bool = eqb (length rest) 15 in
+    where-passed (spanTable (row ∷ rest)) (row ∷ rest) (table 16 (λ i. table 16 (λ j. span 0 i j)))
     (λ rule.
-    is-table 16 (λ i. table 16 (λ j. span 0 i j)) [] t (eqb→eq (length t) 16 (and-left (eqb (length t) 16) rows rule))
-    (λ i h.
-    let row = at 16 (λ i. sixteen i && products i) (and-right (eqb (length t) 16) rows rule) i h in
-    is-table 16 (λ j. span 0 i j) 0 (getD t i []) (eqb→eq (length (getD t i [])) 16 (and-left (sixteen i) (products i) row))
-    (equal 16 (λ j. getD (getD t i []) j 0) (λ j. span 0 i j) (and-right (sixteen i) (products i) row))))
+    let top = and-left (sixteen && ones) (fifteen && rowsFollow 0 row rest) rule in
+    let below = and-right (sixteen && ones) (fifteen && rowsFollow 0 row rest) rule in
+    let count : length rest ≡ 15 = eqb→eq (length rest) 15 (and-left fifteen (rowsFollow 0 row rest) below) in
+    let first : row ≡ table 16 (λ j. span 0 0 j) =
+    is-table 16 (λ j. 1) 0 row (eqb→eq (length row) 16 (and-left sixteen ones top))
+    (equal 16 (λ j. getD row j 0) (λ j. 1) (and-right sixteen ones top)) in
+    is-table 16 (λ i. table 16 (λ j. span 0 i j)) [] (row ∷ rest) (ap (λ (n : ℕ). suc n) count)
+    (λ i h. by-row row rest first count (and-right fifteen (rowsFollow 0 row rest) below) i h))
+  where
+    by-row : (row : List ℕ) (rest : List (List ℕ)) → row ≡ table 16 (λ j. span 0 0 j) → length rest ≡ 15
+        → T (rowsFollow 0 row rest) → (i : ℕ) → i < 16 → getD (row ∷ rest) i [] ≡ table 16 (λ j. span 0 i j)
+    by-row row rest first count follow zero h = first
+    by-row row rest first count follow (suc i) h =
+        rows-spans rest 0 row first follow i (suc i) (omega arith) (omega arith)

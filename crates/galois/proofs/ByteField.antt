@@ -1,19 +1,21 @@
 -- The bytes are a field: every byte but 0 has its reciprocal, and the rule of a table of reciprocals.
 use mathlib.Core.Path.{_≡_, refl, sym, ap, _∙_, subst, subst⁻¹}
 use mathlib.Core.Bool.{Bool, true, false, cond, _&&_}
-use mathlib.Core.List.{List}
+use mathlib.Core.List.{List, [], _∷_}
 use mathlib.Core.Logic.{_≢_, ⊎-elim}
 use Prim.Native.Nat.{ℕ, zero, suc, _+_, _<_, _≤_, zero-le}
-use native.Mathlib.Nat.{add-zero, eq-or-lt-of-le, not-le-of-lt, le-of-suc-le-suc, suc-ne-zero}
+use native.Mathlib.Nat.{add-zero, eq-or-lt-of-le, not-le-of-lt, le-of-suc-le-suc, not-suc-le-zero, suc-ne-zero}
 use native.Mathlib.Omega.{arith}
+use lib.Arith.{digits-lt}
 use lib.Dec.{T, eqb, ltb, eqb→eq, ltb→lt, lit<, lit≤}
-use lib.ListN.{getD}
+use lib.ListN.{length, getD}
 use Rattle.galois.specs.Bounded.{every}
 use Rattle.galois.specs.Byte.{_⊕_, _⊗_, high, low, byte, eight, first, reciprocal}
 use Rattle.galois.specs.Narrow.{narrow, _⊞_, timesZ, timesBits, _⊠_, narrowReciprocals, narrowReciprocal}
-use Rattle.galois.proofs.Cases.{and-left, and-right, at, equal-but-zero, where-passed}
+use Rattle.galois.proofs.Cases.{and-left, and-right, equal-but-zero, where-passed}
 use Rattle.galois.proofs.Field.{Field, reciprocal-unique}
-use Rattle.galois.proofs.ByteProduct.{times-below, times-comm, times-assoc, zero-times, one-times, distributes}
+use Rattle.galois.proofs.ByteProduct.{times-below, times-comm, times-assoc, zero-times, one-times, distributes, high-below, low-below, high-low, low-low, eight-high}
+use Rattle.galois.proofs.NarrowField.{narrows}
 use Rattle.galois.proofs.Xor.{plus-below, plus-comm, plus-assoc, plus-self, zero-plus}
 
 -- ---- the search
@@ -58,20 +60,37 @@ inverse-times : (x : ℕ) → x < 256 → x ≢ 0 → x ⊗ inverse x ≡ 1
 unfolding every _⊗_ _⊞_ _⊠_ narrow timesBits timesZ high low byte eight inverse norm narrowReciprocal narrowReciprocals
 inverse-times = equal-but-zero 255 (λ x. x ⊗ inverse x) (λ x. 1) tt
 
-inverse-below : (x : ℕ) → x < 256 → inverse x < 256
-unfolding every _⊗_ _⊞_ _⊠_ narrow timesBits timesZ high low byte eight inverse norm narrowReciprocal narrowReciprocals
-inverse-below x h = ltb→lt (inverse x) 256 (at 256 (λ x. ltb (inverse x) 256) tt x h)
+norm-below : (x : ℕ) → norm x < 16
+unfolding norm
+norm-below x =
+    narrows .plus-below (eight ⊠ (high x ⊠ high x) ⊞ high x ⊠ low x) (low x ⊠ low x)
+    (narrows .plus-below (eight ⊠ (high x ⊠ high x)) (high x ⊠ low x) (eight-high x x) (high-low x x)) (low-low x x)
+
+inverse-below : (x : ℕ) → inverse x < 256
+unfolding inverse byte
+inverse-below x =
+    let r : ℕ = narrowReciprocal (norm x) in
+    let hr : r < 16 = narrows .reciprocal-below (norm x) (norm-below x) in
+    digits-lt (narrows .times-below (high x) r (high-below x) hr)
+    (narrows .times-below (high x ⊞ low x) r (narrows .plus-below (high x) (low x) (high-below x) (low-below x)) hr)
 
 pub times-reciprocal : (x : ℕ) → x < 256 → x ≢ 0 → x ⊗ reciprocal x ≡ 1
 unfolding reciprocal
 times-reciprocal x h ne =
     eqb→eq (x ⊗ reciprocal x) 1
-    (found (λ y. eqb (x ⊗ y) 1) 0 256 (inverse x) zero-le (inverse-below x h)
+    (found (λ y. eqb (x ⊗ y) 1) 0 256 (inverse x) zero-le (inverse-below x)
     (subst⁻¹ (λ (p : ℕ). T (eqb p 1)) (inverse-times x h ne) tt))
 
+-- a search whose test no number passes ends in 0
+none-found : (f : ℕ → Bool) (a m : ℕ) → ((y : ℕ) → f y ≡ false) → first f a m ≡ 0
+unfolding first
+none-found f a zero never = refl
+none-found f a (suc m) never =
+    ap (λ (t : Bool). elim t [ true ↦ a | false ↦ first f (suc a) m ]) (never a) ∙ none-found f (suc a) m never
+
 pub reciprocal-zero : reciprocal 0 ≡ 0
-unfolding reciprocal first _⊗_ _⊞_ _⊠_ narrow timesBits timesZ high low byte eight
-reciprocal-zero = refl
+unfolding reciprocal
+reciprocal-zero = none-found (λ y. eqb (0 ⊗ y) 1) 0 256 (λ y. ap (λ (p : ℕ). eqb p 1) (zero-times y))
 
 pub bytes : Field 256 _⊕_ _⊗_ reciprocal
 bytes = record {
@@ -106,13 +125,30 @@ entry-reciprocal (suc x) y h t =
     (reciprocal-below (suc x)) (eqb→eq (suc x ⊗ y) 1 (and-right (ltb y 256) (eqb (suc x ⊗ y) 1) t))
     (times-reciprocal (suc x) h (suc-ne-zero x))
 
--- every entry of the table is the reciprocal of its place
+-- every entry of the table is the reciprocal of its place, the first entry being that of x
+unfoldable pub invertsFrom : ℕ → List ℕ → Bool
+invertsFrom x [] = true
+invertsFrom x (y ∷ rest) = inverts x y && invertsFrom (suc x) rest
+
 unfoldable pub reciprocalTable : List ℕ → Bool
-reciprocalTable t = every 256 (λ x. inverts x (getD t x 0))
+reciprocalTable t = eqb (length t) 256 && invertsFrom 0 t
+
+-- entry i of the table from x on
+entry-inverts : (t : List ℕ) (x i z : ℕ) → T (invertsFrom x t) → i < length t → z ≡ x + i → T (inverts z (getD t i 0))
+unfolding invertsFrom
+entry-inverts [] x i z rule h e = absurd (not-suc-le-zero h)
+entry-inverts (y ∷ rest) x zero z rule h e =
+    let same : x ≡ z = omega arith in
+    subst (λ (w : ℕ). T (inverts w y)) same (and-left (inverts x y) (invertsFrom (suc x) rest) rule)
+entry-inverts (y ∷ rest) x (suc i) z rule h e =
+    entry-inverts rest (suc x) i z (and-right (inverts x y) (invertsFrom (suc x) rest) rule) (le-of-suc-le-suc h) (omega arith)
 
 -- the rule of the table: where that one test over it passes, an entry is the reciprocal
 pub table-reciprocal : (x : ℕ) → x < 256 → (t : List ℕ) → getD t x 0 ≡ cond (reciprocalTable t) (reciprocal x) (getD t x 0)
 unfolding reciprocalTable
 table-reciprocal x h t =
     where-passed (reciprocalTable t) (getD t x 0) (reciprocal x)
-    (λ rule. entry-reciprocal x (getD t x 0) h (at 256 (λ x. inverts x (getD t x 0)) rule x h))
+    (λ rule.
+    let all : length t ≡ 256 = eqb→eq (length t) 256 (and-left (eqb (length t) 256) (invertsFrom 0 t) rule) in
+    entry-reciprocal x (getD t x 0) h
+    (entry-inverts t 0 x x (and-right (eqb (length t) 256) (invertsFrom 0 t) rule) (omega arith) (omega arith)))

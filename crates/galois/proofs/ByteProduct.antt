@@ -1,16 +1,17 @@
 -- The laws of the product of bytes. It is additive in each argument by the narrow laws, so that a law needs only its cases at
 -- powers of two. All but `one-times` hold of any number, which counts as its remainder by 256.
-use mathlib.Core.Path.{_≡_, refl, sym, ap, ap₂, _∙_, subst⁻¹}
-use Prim.Native.Nat.{ℕ, _+_, _*_, _/_, _%_, _^_, _<_}
+use mathlib.Core.Path.{_≡_, refl, sym, ap, ap₂, _∙_, subst, subst⁻¹}
+use mathlib.Core.Logic.{⊎-elim}
+use Prim.Native.Nat.{ℕ, zero, suc, _+_, _-_, _*_, _/_, _%_, _^_, _<_}
 use native.Mathlib.Nat.{mod-lt, zero-lt-suc}
 use native.Mathlib.Omega.{arith}
 use lib.Bits.{xor-shr, xor-mod, xor-block, xor-shifted}
 use lib.Arith.{digits-lt}
-use lib.Dec.{lit<}
+use lib.Dec.{lit<, ltb, ltb→lt}
 use Rattle.galois.specs.Bounded.{every}
 use Rattle.galois.specs.Narrow.{narrow, _⊞_, timesZ, timesBits, _⊠_}
 use Rattle.galois.specs.Byte.{_⊕_, _⊗_, high, low, byte, alpha, eight, widen}
-use Rattle.galois.proofs.Cases.{equal, equal₂, equal₃}
+use Rattle.galois.proofs.Cases.{at, equal, equal₂, le-or-lt}
 use Rattle.galois.proofs.NarrowField.{narrows, narrow-plus}
 use Rattle.galois.proofs.Xor.{plus-comm, plus-below, zero-plus, Additive, additive-zero, additive-plus, additive-after, additive-equal}
 
@@ -170,29 +171,74 @@ times-remainder x y =
 remainder-times : (x y : ℕ) → x ⊗ y ≡ (x % 256) ⊗ y
 remainder-times x y = times-comm x y ∙ times-remainder y x ∙ times-comm y (x % 256)
 
--- each side of the law of three factors is additive in each factor; so it holds as it does at powers of two
-assoc-powers : (i j k : ℕ) → i < 8 → j < 8 → k < 8 → (2 ^ i ⊗ 2 ^ j) ⊗ 2 ^ k ≡ 2 ^ i ⊗ (2 ^ j ⊗ 2 ^ k)
+-- the law of three factors where x is the first
+abbrev Associates : ℕ → Type 0
+Associates x = (y z : ℕ) → y < 256 → z < 256 → (x ⊗ y) ⊗ z ≡ x ⊗ (y ⊗ z)
+
+-- each side is additive in each factor; so it holds as it does at powers of two
+module _ (x : ℕ) (powers : (j k : ℕ) → j < 8 → k < 8 → (x ⊗ 2 ^ j) ⊗ 2 ^ k ≡ x ⊗ (2 ^ j ⊗ 2 ^ k)) where
+  assoc-third : (j z : ℕ) → j < 8 → z < 256 → (x ⊗ 2 ^ j) ⊗ z ≡ x ⊗ (2 ^ j ⊗ z)
+  assoc-third j z hj hz =
+      additive-equal (λ z. (x ⊗ 2 ^ j) ⊗ z) (λ z. x ⊗ (2 ^ j ⊗ z)) (distributes (x ⊗ 2 ^ j))
+      (additive-after (λ y. x ⊗ y) (λ z. 2 ^ j ⊗ z) (distributes x) (distributes (2 ^ j))) 8
+      (λ k hk. powers j k hj hk) z hz
+
+  assoc-second : Associates x
+  assoc-second y z hy hz =
+      additive-equal (λ y. (x ⊗ y) ⊗ z) (λ y. x ⊗ (y ⊗ z))
+      (additive-after (λ x. x ⊗ z) (λ y. x ⊗ y) (distributes-left z) (distributes x))
+      (additive-after (λ y. x ⊗ y) (λ y. y ⊗ z) (distributes x) (distributes-left z)) 8
+      (λ j hj. assoc-third j z hj hz) y hy
+
+-- it holds of a product where it holds of both factors
+associates-times : (x w : ℕ) → w < 256 → Associates x → Associates w → Associates (x ⊗ w)
+associates-times x w hw of-x of-w y z hy hz =
+    ap (λ (p : ℕ). p ⊗ z) (of-x w y hw hy) ∙ of-x (w ⊗ y) z (times-below w y) hz ∙ ap (λ (p : ℕ). x ⊗ p) (of-w y z hy hz)
+    ∙ sym (of-x w (y ⊗ z) hw (times-below y z))
+
+-- so 1, z and α are enough
+associates-one : Associates 1
+associates-one y z hy hz = ap (λ (p : ℕ). p ⊗ z) (one-times y hy) ∙ sym (one-times (y ⊗ z) (times-below y z))
+
+associates-z : Associates 2
 unfolding every _⊗_ _⊞_ _⊠_ narrow timesBits timesZ high low byte eight
-assoc-powers = equal₃ 8 (λ i j k. (2 ^ i ⊗ 2 ^ j) ⊗ 2 ^ k) (λ i j k. 2 ^ i ⊗ (2 ^ j ⊗ 2 ^ k)) tt
+associates-z = assoc-second 2 (equal₂ 8 (λ j k. (2 ⊗ 2 ^ j) ⊗ 2 ^ k) (λ j k. 2 ⊗ (2 ^ j ⊗ 2 ^ k)) tt)
 
-assoc-third : (i j z : ℕ) → i < 8 → j < 8 → z < 256 → (2 ^ i ⊗ 2 ^ j) ⊗ z ≡ 2 ^ i ⊗ (2 ^ j ⊗ z)
-assoc-third i j z hi hj hz =
-    additive-equal (λ z. (2 ^ i ⊗ 2 ^ j) ⊗ z) (λ z. 2 ^ i ⊗ (2 ^ j ⊗ z)) (distributes (2 ^ i ⊗ 2 ^ j))
-    (additive-after (λ y. 2 ^ i ⊗ y) (λ z. 2 ^ j ⊗ z) (distributes (2 ^ i)) (distributes (2 ^ j))) 8
-    (λ k hk. assoc-powers i j k hi hj hk) z hz
+associates-alpha : Associates 16
+unfolding every _⊗_ _⊞_ _⊠_ narrow timesBits timesZ high low byte eight
+associates-alpha = assoc-second 16 (equal₂ 8 (λ j k. (16 ⊗ 2 ^ j) ⊗ 2 ^ k) (λ j k. 16 ⊗ (2 ^ j ⊗ 2 ^ k)) tt)
 
-assoc-second : (i y z : ℕ) → i < 8 → y < 256 → z < 256 → (2 ^ i ⊗ y) ⊗ z ≡ 2 ^ i ⊗ (y ⊗ z)
-assoc-second i y z hi hy hz =
-    additive-equal (λ y. (2 ^ i ⊗ y) ⊗ z) (λ y. 2 ^ i ⊗ (y ⊗ z))
-    (additive-after (λ x. x ⊗ z) (λ y. 2 ^ i ⊗ y) (distributes-left z) (distributes (2 ^ i)))
-    (additive-after (λ y. 2 ^ i ⊗ y) (λ y. y ⊗ z) (distributes (2 ^ i)) (distributes-left z)) 8
-    (λ j hj. assoc-third i j z hi hj hz) y hy
+associates-narrow : (i : ℕ) → i < 4 → Associates (2 ^ i)
+unfolding _⊗_ _⊞_ _⊠_ narrow timesBits timesZ high low byte eight
+associates-narrow zero h = associates-one
+associates-narrow (suc zero) h = associates-z
+associates-narrow (suc (suc zero)) h = associates-times 2 2 (lit< tt) associates-z associates-z
+associates-narrow (suc (suc (suc zero))) h =
+    associates-times 2 4 (lit< tt) associates-z (associates-times 2 2 (lit< tt) associates-z associates-z)
+associates-narrow (suc (suc (suc (suc i)))) h = omega arith
+
+alpha-power : (i : ℕ) → i < 4 → 16 ⊗ 2 ^ i ≡ 2 ^ (i + 4)
+unfolding every _⊗_ _⊞_ _⊠_ narrow timesBits timesZ high low byte eight
+alpha-power = equal 4 (λ i. 16 ⊗ 2 ^ i) (λ i. 2 ^ (i + 4)) tt
+
+power-below : (i : ℕ) → i < 4 → 2 ^ i < 256
+unfolding every
+power-below i h = ltb→lt (2 ^ i) 256 (at 4 (λ i. ltb (2 ^ i) 256) tt i h)
+
+associates-power : (i : ℕ) → i < 8 → Associates (2 ^ i)
+associates-power i h =
+    ⊎-elim
+    (λ above.
+    let e : i - 4 + 4 ≡ i = omega arith in
+    subst Associates (alpha-power (i - 4) (omega arith) ∙ ap (λ (m : ℕ). 2 ^ m) e)
+    (associates-times 16 (2 ^ (i - 4)) (power-below (i - 4) (omega arith)) associates-alpha (associates-narrow (i - 4) (omega arith))))
+    (λ below. associates-narrow i below) (le-or-lt 4 i)
 
 assoc-first : (x y z : ℕ) → x < 256 → y < 256 → z < 256 → (x ⊗ y) ⊗ z ≡ x ⊗ (y ⊗ z)
 assoc-first x y z hx hy hz =
     additive-equal (λ x. (x ⊗ y) ⊗ z) (λ x. x ⊗ (y ⊗ z))
     (additive-after (λ x. x ⊗ z) (λ x. x ⊗ y) (distributes-left z) (distributes-left y)) (distributes-left (y ⊗ z)) 8
-    (λ i hi. assoc-second i y z hi hy hz) x hx
+    (λ i hi. associates-power i hi y z hy hz) x hx
 
 remainder-below : (x : ℕ) → x % 256 < 256
 remainder-below x = mod-lt x (zero-lt-suc 255)

@@ -13,7 +13,7 @@ use Rattle.galois.specs.Narrow.{narrow, _⊞_, timesZ, timesBits, _⊠_}
 use Rattle.galois.proofs.Cases.{and-left, and-right, or-cases, at, equal, equal₂}
 use Rattle.galois.proofs.ByteProduct.{high-below, low-below, high-high, high-low, low-high, low-low, eight-high}
 use Rattle.galois.proofs.NarrowField.{narrows}
-use Rattle.galois.proofs.Xor.{plus-comm}
+use Rattle.galois.proofs.Xor.{plus-comm, plus-below}
 
 pub widen-narrow : (a : ℕ) → a < 16 → widen a ≡ a
 unfolding widen
@@ -81,20 +81,33 @@ byte-parts-unique a b c d ha hb hc hd e =
 
 -- ---- the norm of a + αb is 0 at 0 only
 
+-- the product of narrow numbers is their product as bytes
+narrow-product : (a b : ℕ) → a < 16 → b < 16 → a ⊗ b ≡ a ⊠ b
+narrow-product a b ha hb =
+    ap₂ _⊗_ (sym (widen-narrow a ha)) (sym (widen-narrow b hb)) ∙ sym (widen-times a b ha hb)
+    ∙ widen-narrow (a ⊠ b) (narrows .times-below a b ha hb)
+
 -- the two sides differ, or a and b are 0
 normTest : ℕ → ℕ → Bool
-normTest a b = not (eqb (a ⊗ (a ⊕ b)) (b ⊗ (eight ⊗ b))) || (eqb a 0 && eqb b 0)
+normTest a b = not (eqb (a ⊠ (a ⊕ b)) (b ⊠ (eight ⊠ b))) || (eqb a 0 && eqb b 0)
 
 norm-passed : (a b : ℕ) → a < 16 → b < 16 → T (normTest a b)
-unfolding normTest every _⊗_ _⊞_ _⊠_ narrow timesBits timesZ high low byte eight _⊕_
+unfolding normTest every _⊠_ narrow timesBits timesZ eight _⊕_
 norm-passed a b ha hb = at 16 (normTest a) (at 16 (λ a. every 16 (normTest a)) tt a ha) b hb
+
+eight-below : eight < 16
+unfolding eight
+eight-below = lit< tt
 
 -- a × (a + b) = 8 × b × b only for a = b = 0
 pub norm-zero : (a b : ℕ) → a < 16 → b < 16 → a ⊗ (a ⊕ b) ≡ b ⊗ (eight ⊗ b) → (a ≡ 0) × (b ≡ 0)
 unfolding normTest
 norm-zero a b ha hb e =
-    let x : ℕ = a ⊗ (a ⊕ b) in
-    let y : ℕ = b ⊗ (eight ⊗ b) in
-    ⊎-elim (λ differ. absurd (T-not (eqb x y) differ (subst (λ (z : ℕ). T (eqb x z)) e (eqb-refl x))))
+    let x : ℕ = a ⊠ (a ⊕ b) in
+    let y : ℕ = b ⊠ (eight ⊠ b) in
+    let same : x ≡ y =
+    sym (narrow-product a (a ⊕ b) ha (plus-below 4 a b ha hb)) ∙ e ∙ ap (λ (p : ℕ). b ⊗ p) (narrow-product eight b eight-below hb)
+    ∙ narrow-product b (eight ⊠ b) hb (narrows .times-below eight b eight-below hb) in
+    ⊎-elim (λ differ. absurd (T-not (eqb x y) differ (subst (λ (z : ℕ). T (eqb x z)) same (eqb-refl x))))
     (λ both. (eqb→eq a 0 (and-left (eqb a 0) (eqb b 0) both), eqb→eq b 0 (and-right (eqb a 0) (eqb b 0) both)))
     (or-cases (not (eqb x y)) (eqb a 0 && eqb b 0) (norm-passed a b ha hb))

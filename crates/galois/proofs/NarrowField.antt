@@ -1,53 +1,20 @@
--- The narrow numbers are a field. Each law is computed, over all of its cases.
-use mathlib.Core.Path.{_≡_, sym, ap, ap₂, _∙_, subst⁻¹}
+-- The narrow numbers are a field. The product is additive, so that its laws are computed at powers of two.
+use mathlib.Core.Path.{_≡_, refl, sym, ap, ap₂, _∙_, subst⁻¹}
 use mathlib.Core.Bool.{Bool, cond, not, and-false}
 use mathlib.Core.Logic.{_≢_}
-use Prim.Native.Nat.{ℕ, zero, suc, _*_, _/_, _%_, _<_}
-use lib.Bits.{bitXor}
+use Prim.Native.Nat.{ℕ, zero, suc, _*_, _/_, _%_, _^_, _<_}
+use native.Mathlib.Nat.{mod-lt, zero-lt-suc}
+use native.Mathlib.Omega.{arith}
+use lib.Bits.{bitXor, xor-shr, xor-mod}
 use lib.Dec.{T, T-not, eqb, ltb, eqb→eq, ltb→lt, lit<}
 use lib.ListN.{getD, List·getD-eq-default}
 use borrow.Author.Tests.{lt-ltb, le-ltb}
 use Rattle.galois.specs.Bounded.{every}
 use Rattle.galois.specs.Byte.{_⊕_, eight}
 use Rattle.galois.specs.Narrow.{narrow, _⊞_, timesZ, timesBits, _⊠_, narrowReciprocals, narrowReciprocal}
-use Rattle.galois.proofs.Cases.{at, equal, equal₂, equal₃, equal-but-zero}
+use Rattle.galois.proofs.Cases.{at, equal, equal₂, equal-but-zero}
 use Rattle.galois.proofs.Field.{Field}
-
-below₂ : (f : ℕ → ℕ → ℕ) → T (every 16 (λ a. every 16 (λ b. ltb (f a b) 16)))
-    → (a b : ℕ) → a < 16 → b < 16 → f a b < 16
-below₂ f t a b ha hb =
-    ltb→lt (f a b) 16 (at 16 (λ b. ltb (f a b) 16) (at 16 (λ a. every 16 (λ b. ltb (f a b) 16)) t a ha) b hb)
-
-pub narrows : Field 16 _⊞_ _⊠_ narrowReciprocal
-unfolding every _⊞_ _⊠_ narrow timesBits timesZ narrowReciprocal narrowReciprocals
-narrows = record {
-  one-below = lit< tt;
-  plus-below = below₂ _⊞_ tt;
-  plus-comm = equal₂ 16 (λ a b. a ⊞ b) (λ a b. b ⊞ a) tt;
-  plus-assoc = equal₃ 16 (λ a b c. (a ⊞ b) ⊞ c) (λ a b c. a ⊞ (b ⊞ c)) tt;
-  zero-plus = equal 16 (λ a. 0 ⊞ a) (λ a. a) tt;
-  plus-self = equal 16 (λ a. a ⊞ a) (λ a. 0) tt;
-  times-below = below₂ _⊠_ tt;
-  times-comm = equal₂ 16 (λ a b. a ⊠ b) (λ a b. b ⊠ a) tt;
-  times-assoc = equal₃ 16 (λ a b c. (a ⊠ b) ⊠ c) (λ a b c. a ⊠ (b ⊠ c)) tt;
-  zero-times = equal 16 (λ a. 0 ⊠ a) (λ a. 0) tt;
-  one-times = equal 16 (λ a. 1 ⊠ a) (λ a. a) tt;
-  distributes = equal₃ 16 (λ a b c. a ⊠ (b ⊞ c)) (λ a b c. a ⊠ b ⊞ a ⊠ c) tt;
-  reciprocal-below = λ a ha. ltb→lt (narrowReciprocal a) 16 (at 16 (λ a. ltb (narrowReciprocal a) 16) tt a ha);
-  times-reciprocal = equal-but-zero 15 (λ a. a ⊠ narrowReciprocal a) (λ a. 1) tt;
-}
-
--- x × x + x + 8 is never 0
-pub no-root : (a : ℕ) → a < 16 → a ⊠ a ⊞ a ⊞ eight ≢ 0
-unfolding every _⊞_ _⊠_ narrow timesBits timesZ eight
-no-root a ha e =
-    T-not (eqb (a ⊠ a ⊞ a ⊞ eight) 0) (at 16 (λ a. not (eqb (a ⊠ a ⊞ a ⊞ eight) 0)) tt a ha)
-    (subst⁻¹ (λ (r : ℕ). T (eqb r 0)) e tt)
-
--- the sum of narrow numbers is their sum as bytes
-pub narrow-plus : (a b : ℕ) → a < 16 → b < 16 → a ⊞ b ≡ a ⊕ b
-unfolding every _⊞_ narrow _⊕_
-narrow-plus = equal₂ 16 _⊞_ _⊕_ tt
+use Rattle.galois.proofs.Xor.{plus-below, plus-comm, plus-assoc, plus-self, zero-plus, plus-zero, plus-exchange, Additive, additive-after, additive-equal}
 
 -- ---- the narrow guard
 
@@ -71,6 +38,135 @@ both-narrow a b r ha hb = rw (lt-ltb a 16 ha, lt-ltb b 16 hb)
 pub reciprocal-above : (a : ℕ) → 15 < a → narrowReciprocal a ≡ 0
 unfolding narrowReciprocal narrowReciprocals
 reciprocal-above a h = List·getD-eq-default narrowReciprocals 0 h
+
+-- ---- the sum
+
+-- the sum of narrow numbers is their sum as bytes
+pub narrow-plus : (a b : ℕ) → a < 16 → b < 16 → a ⊞ b ≡ a ⊕ b
+unfolding _⊞_ _⊕_
+narrow-plus a b = both-narrow a b (a ⊕ b)
+
+sum-below : (a b : ℕ) → a < 16 → b < 16 → a ⊞ b < 16
+sum-below a b ha hb = subst⁻¹ (λ (s : ℕ). s < 16) (narrow-plus a b ha hb) (plus-below 4 a b ha hb)
+
+sum-assoc : (a b c : ℕ) → a < 16 → b < 16 → c < 16 → (a ⊞ b) ⊞ c ≡ a ⊞ (b ⊞ c)
+sum-assoc a b c ha hb hc =
+    narrow-plus (a ⊞ b) c (sum-below a b ha hb) hc ∙ ap (λ (s : ℕ). s ⊕ c) (narrow-plus a b ha hb) ∙ plus-assoc a b c
+    ∙ sym (narrow-plus a (b ⊞ c) ha (sum-below b c hb hc) ∙ ap (λ (s : ℕ). a ⊕ s) (narrow-plus b c hb hc))
+
+-- ---- the product: additive in its second factor, so that a law needs only its cases at powers of two
+
+bit-below : (b : ℕ) → b % 2 < 2
+bit-below b = mod-lt b (zero-lt-suc 1)
+
+-- a number where a bit is 1 is additive in the bit
+bit-additive : (a p q : ℕ) → p < 2 → q < 2 → cond (eqb (p ⊕ q) 1) a 0 ≡ cond (eqb p 1) a 0 ⊕ cond (eqb q 1) a 0
+unfolding _⊕_
+bit-additive a zero zero hp hq = refl
+bit-additive a zero (suc zero) hp hq = refl
+bit-additive a (suc zero) zero hp hq = sym (plus-zero a)
+bit-additive a (suc zero) (suc zero) hp hq = sym (plus-self a)
+bit-additive a (suc (suc p)) q hp hq = omega arith
+bit-additive a zero (suc (suc q)) hp hq = omega arith
+bit-additive a (suc zero) (suc (suc q)) hp hq = omega arith
+
+bits-additive : (m a : ℕ) → Additive (timesBits m a)
+unfolding timesBits _⊕_
+bits-additive zero a b c = refl
+bits-additive (suc m) a b c =
+    ap₂ _⊕_
+    (ap (λ (r : ℕ). cond (eqb r 1) a 0) (xor-mod b c 1) ∙ bit-additive a (b % 2) (c % 2) (bit-below b) (bit-below c))
+    (ap (timesBits m (timesZ a)) (xor-shr b c 1) ∙ bits-additive m (timesZ a) (b / 2) (c / 2))
+    ∙ plus-exchange (cond (eqb (b % 2) 1) a 0) (cond (eqb (c % 2) 1) a 0) (timesBits m (timesZ a) (b / 2)) (timesBits m (timesZ a) (c / 2))
+
+-- the product without the guard
+raw : ℕ → ℕ → ℕ
+raw a b = timesBits 4 a b
+
+raw-additive : (a : ℕ) → Additive (raw a)
+unfolding raw
+raw-additive a = bits-additive 4 a
+
+raw-below : (a b : ℕ) → a < 16 → b < 16 → raw a b < 16
+unfolding every raw timesBits timesZ
+raw-below a b ha hb =
+    ltb→lt (raw a b) 16 (at 16 (λ b. ltb (raw a b) 16) (at 16 (λ a. every 16 (λ b. ltb (raw a b) 16)) tt a ha) b hb)
+
+raw-comm : (a b : ℕ) → a < 16 → b < 16 → raw a b ≡ raw b a
+unfolding every raw timesBits timesZ
+raw-comm = equal₂ 16 raw (λ a b. raw b a) tt
+
+raw-powers : (a j k : ℕ) → a < 16 → j < 4 → k < 4 → raw (raw a (2 ^ j)) (2 ^ k) ≡ raw a (raw (2 ^ j) (2 ^ k))
+unfolding every raw timesBits timesZ
+raw-powers a j k ha =
+    equal₂ 4 (λ j k. raw (raw a (2 ^ j)) (2 ^ k)) (λ j k. raw a (raw (2 ^ j) (2 ^ k)))
+    (at 16 (λ a. every 4 (λ j. every 4 (λ k. eqb (raw (raw a (2 ^ j)) (2 ^ k)) (raw a (raw (2 ^ j) (2 ^ k)))))) tt a ha) j k
+
+power-below : (j : ℕ) → j < 4 → 2 ^ j < 16
+unfolding every
+power-below j h = ltb→lt (2 ^ j) 16 (at 4 (λ j. ltb (2 ^ j) 16) tt j h)
+
+-- the law of three factors where the second is a power of two
+raw-third : (a j c : ℕ) → a < 16 → j < 4 → c < 16 → raw (raw a (2 ^ j)) c ≡ raw a (raw (2 ^ j) c)
+raw-third a j c ha hj hc =
+    additive-equal (raw (raw a (2 ^ j))) (λ c. raw a (raw (2 ^ j) c)) (raw-additive (raw a (2 ^ j)))
+    (additive-after (raw a) (raw (2 ^ j)) (raw-additive a) (raw-additive (2 ^ j))) 4
+    (λ k hk. raw-powers a j k ha hj hk) c hc
+
+-- and of any three, the first two exchanged so that each side is additive in the last
+raw-swap : (a b c : ℕ) → a < 16 → b < 16 → c < 16 → raw c (raw a b) ≡ raw a (raw c b)
+raw-swap a b c ha hb hc =
+    additive-equal (λ b. raw c (raw a b)) (λ b. raw a (raw c b))
+    (additive-after (raw c) (raw a) (raw-additive c) (raw-additive a))
+    (additive-after (raw a) (raw c) (raw-additive a) (raw-additive c)) 4
+    (λ j hj.
+    raw-comm c (raw a (2 ^ j)) hc (raw-below a (2 ^ j) ha (power-below j hj)) ∙ raw-third a j c ha hj hc
+    ∙ ap (raw a) (raw-comm (2 ^ j) c (power-below j hj) hc)) b hb
+
+times-raw : (a b : ℕ) → a < 16 → b < 16 → a ⊠ b ≡ raw a b
+unfolding _⊠_ raw
+times-raw a b = both-narrow a b (timesBits 4 a b)
+
+product-below : (a b : ℕ) → a < 16 → b < 16 → a ⊠ b < 16
+product-below a b ha hb = subst⁻¹ (λ (p : ℕ). p < 16) (times-raw a b ha hb) (raw-below a b ha hb)
+
+product-assoc : (a b c : ℕ) → a < 16 → b < 16 → c < 16 → (a ⊠ b) ⊠ c ≡ a ⊠ (b ⊠ c)
+product-assoc a b c ha hb hc =
+    times-raw (a ⊠ b) c (product-below a b ha hb) hc ∙ ap (λ (p : ℕ). raw p c) (times-raw a b ha hb)
+    ∙ raw-comm (raw a b) c (raw-below a b ha hb) hc ∙ raw-swap a b c ha hb hc ∙ ap (raw a) (raw-comm c b hc hb)
+    ∙ sym (times-raw a (b ⊠ c) ha (product-below b c hb hc) ∙ ap (raw a) (times-raw b c hb hc))
+
+product-distributes : (a b c : ℕ) → a < 16 → b < 16 → c < 16 → a ⊠ (b ⊞ c) ≡ a ⊠ b ⊞ a ⊠ c
+product-distributes a b c ha hb hc =
+    times-raw a (b ⊞ c) ha (sum-below b c hb hc) ∙ ap (raw a) (narrow-plus b c hb hc) ∙ raw-additive a b c
+    ∙ sym (ap₂ _⊕_ (times-raw a b ha hb) (times-raw a c ha hc))
+    ∙ sym (narrow-plus (a ⊠ b) (a ⊠ c) (product-below a b ha hb) (product-below a c ha hc))
+
+pub narrows : Field 16 _⊞_ _⊠_ narrowReciprocal
+unfolding every _⊠_ narrow timesBits timesZ narrowReciprocal narrowReciprocals
+narrows = record {
+  one-below = lit< tt;
+  plus-below = sum-below;
+  plus-comm = λ a b ha hb. narrow-plus a b ha hb ∙ plus-comm a b ∙ sym (narrow-plus b a hb ha);
+  plus-assoc = sum-assoc;
+  zero-plus = λ a ha. narrow-plus 0 a (lit< tt) ha ∙ zero-plus a;
+  plus-self = λ a ha. narrow-plus a a ha ha ∙ plus-self a;
+  times-below = product-below;
+  times-comm = λ a b ha hb. times-raw a b ha hb ∙ raw-comm a b ha hb ∙ sym (times-raw b a hb ha);
+  times-assoc = product-assoc;
+  zero-times = equal 16 (λ a. 0 ⊠ a) (λ a. 0) tt;
+  one-times = equal 16 (λ a. 1 ⊠ a) (λ a. a) tt;
+  distributes = product-distributes;
+  reciprocal-below = λ a ha. ltb→lt (narrowReciprocal a) 16 (at 16 (λ a. ltb (narrowReciprocal a) 16) tt a ha);
+  times-reciprocal = equal-but-zero 15 (λ a. a ⊠ narrowReciprocal a) (λ a. 1) tt;
+}
+
+-- x × x + x + 8 is never 0
+pub no-root : (a : ℕ) → a < 16 → a ⊠ a ⊞ a ⊞ eight ≢ 0
+unfolding every _⊞_ _⊠_ narrow timesBits timesZ eight
+no-root a ha e =
+    T-not (eqb (a ⊠ a ⊞ a ⊞ eight) 0) (at 16 (λ a. not (eqb (a ⊠ a ⊞ a ⊞ eight) 0)) tt a ha)
+    (subst⁻¹ (λ (r : ℕ). T (eqb r 0)) e tt)
 
 -- ---- the product as the code has it
 

@@ -3,7 +3,10 @@ use mathlib.Core.Path.{_≡_, sym, ap, _∙_}
 use mathlib.Core.Bool.{Bool, true, false, cond, _&&_}
 use mathlib.Core.Logic.{_≢_}
 use mathlib.Core.List.{List, _∷_}
+use native.Mathlib.Omega.{arith}
 use Prim.Native.Nat.{ℕ, _+_, _%_, _≤_, _<_}
+use mir.Syntax.{w32}
+use mir.Val.{Fits}
 use lib.Dec.{T, eqb, ltb}
 use lib.ListN.{length, drop, replicate}
 use borrow.Author.Tests.{ne-eqb, lt-ltb, le-ltb}
@@ -43,6 +46,11 @@ module _ (s : Settings) (rows : List ℕ) where
   open-length ok ne = found-opening BadLength (rw (fails (accepted s) ok, ne-eqb (length rows) (receiverLen s) ne))
 
 -- ---- an accepted report
+
+-- the slot after the one due is below 2^32
+pub next-fits : (due : ℕ) → due ≤ lastSlot → Fits w32 (due + 1)
+unfolding lastSlot
+next-fits due time = record { fits = omega arith }
 
 module _ (x : Receiver) (row rows : List ℕ) where
   made : List ℕ → Reply → List ℕ → Reported

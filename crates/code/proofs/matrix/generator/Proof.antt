@@ -83,7 +83,7 @@ loop-again c =
       at .inv .0,
       at .inv .1,
       omega arith,
-      simp length-set (at .inv .3),
+      length-set (at .rows) i row ∙ at .inv .3,
       λ r h below.
           ⊎-elim
           (λ same.

@@ -94,9 +94,9 @@ examine-spec =
     returns-2
     returns-3
     (λ c κs. search needs)
-    (λ c κs. search needs)
+    (λ c κs. tt)
     returns-4
-    (λ c κs. search needs)
+    (λ c κs. tt)
     rem-if5
     returns-5
     returns-6)

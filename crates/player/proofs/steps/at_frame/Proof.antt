@@ -1,8 +1,11 @@
 -- Each way out is one case of a step at a frame.
 use borrow.Author.Needs.{needs}
-use mathlib.Core.Path.{_≡_, sym, ap, _∙_}
+use mathlib.Core.Path.{_≡_, sym, ap, _∙_, subst}
+use mathlib.Core.List.{List}
 use native.Mathlib.Omega.{arith}
+use Prim.Native.Nat.{ℕ, _+_, _*_, _≤_, _<_}
 use denote.Ref.{now}
+use lib.ListN.{length}
 use Rattle.protocol.specs.Calls.{Reported}
 use Rattle.protocol.specs.TwoLists.{reportOf}
 use Rattle.terminal.specs.Given.{reportIn}
@@ -27,6 +30,22 @@ returns c =
     (frame-stops (a .p) (now (a .frame)) (a .end) (now (a .rows)) (now (a .message)) why
     (sym (asked .stop-of .ensures) ∙ refused .stop .given .1))
 
+-- a message of the same length leaves as much room on the line
+fits-kept : (before after line : List ℕ) → length after ≡ length before → 18 + 2 * length before ≤ length line → 18 + 2 * length after ≤ length line
+fits-kept before after line same fits = omega arith
+
+told-requires : tie.Need-told-requires
+told-requires c κs =
+    let kept = c .before .before .before .before .before .before in
+    let a = start (kept .before .before .before .before .before .before .before .before) .args in
+    fits-kept (now (a .message)) (kept .report-kept .last .1 .1 .1 .1 .0) (now (a .line)) (kept .report-kept .kept .1 .1 .1 .1 .0) (start (kept .before .before .before .before .before .before .before .before) .pre .1)
+
+told-requires-2 : tie.Need-told-requires-2
+told-requires-2 c κs =
+    let kept = c .before .before .before .before .before .before in
+    let a = start (kept .before .before .before .before .before .before .before .before) .args in
+    fits-kept (now (a .message)) (kept .report-kept2 .last .1 .1 .1 .1 .0) (now (a .line)) (kept .report-kept2 .kept .1 .1 .1 .1 .0) (start (kept .before .before .before .before .before .before .before .before) .pre .1)
+
 returns-2 : tie.Need-returns-2
 unfolding reportOf reportIn
 returns-2 c =
@@ -43,7 +62,7 @@ returns-2 c =
     ∙ ap (onLine (now (a .line)))
     (frame-skips (a .p) (now (a .frame)) (a .end) (now (a .rows)) (now (a .message))
     (sym (asked .stop-of .ensures) ∙ passed .enum-told .given .1)
-    (omega (arith, test .before .before .slot-of .ensures)))
+    (subst (λ (n : ℕ). x .due < n) (test .before .before .slot-of .ensures) (test .if1 .taken)))
 
 returns-3 : tie.Need-returns-3
 unfolding reportOf reportIn
@@ -61,7 +80,7 @@ returns-3 c =
     ∙ ap (onLine (now (a .line)))
     (frame-hears (a .p) (now (a .frame)) (a .end) (now (a .rows)) (now (a .message))
     (sym (asked .stop-of .ensures) ∙ passed .enum-told .given .1)
-    (omega (arith, test .before .before .slot-of .ensures)))
+    (subst (λ (n : ℕ). n ≤ x .due) (test .before .before .slot-of .ensures) (test .if1 .left)))
 
 pub at-frame-spec : {M : Type 1} → statement M
 at-frame-spec =
@@ -70,19 +89,19 @@ at-frame-spec =
     (λ c κs. search needs)
     (λ c. search needs)
     (λ c κs. search needs)
-    (λ c. search needs)
+    (λ c. c .before .before .stopped .kept .1 .1 .0)
     returns
     (λ c. search needs)
     (λ c κs. search needs)
-    (λ c κs. search needs)
-    (λ c κs. search needs)
-    (λ c. search needs)
-    (λ c. search needs)
-    (λ c. search needs)
+    (λ c κs. tt)
+    told-requires
+    (λ c. c .before .before .before .before .before .before .before .before .before .report-kept .kept .1 .0)
+    (λ c. c .before .before .before .before .before .before .before .before .before .report-kept .kept .1 .1 .1 .1 .0)
+    (λ c. c .before .before .told .kept .1 .1 .1 .1 .0)
     returns-2
-    (λ c κs. search needs)
-    (λ c κs. search needs)
-    (λ c. search needs)
-    (λ c. search needs)
-    (λ c. search needs)
+    (λ c κs. tt)
+    told-requires-2
+    (λ c. c .before .before .before .before .before .before .before .before .before .report-kept2 .kept .1 .0)
+    (λ c. c .before .before .before .before .before .before .before .before .before .report-kept2 .kept .1 .1 .1 .1 .0)
+    (λ c. c .before .before .told2 .kept .1 .1 .1 .1 .0)
     returns-3)

@@ -122,10 +122,10 @@ pub step-spec : {M : Type 1} → statement M
 step-spec =
     tie.close
     (tie.spec
-    (λ c κs. search needs)
+    (λ c κs. tt)
     returns
-    (λ c κs. search needs)
-    (λ c κs. search needs)
+    (λ c κs. tt)
+    (λ c κs. tt)
     (λ c. search needs)
     (λ c. search needs)
     stopped-requires
@@ -135,9 +135,9 @@ step-spec =
     part-at-frame-end
     at-frame-requires
     returns-2
-    (λ c. search needs)
+    (λ c. c .before .before .stopped .kept .1 .1 .0)
     returns-3
-    (λ c. search needs)
-    (λ c. search needs)
-    (λ c. search needs)
+    (λ c. c .before .before .before .before .before .before .at-frame .kept .1 .1 .1 .0)
+    (λ c. c .before .before .before .before .before .before .at-frame .kept .1 .1 .1 .1 .0)
+    (λ c. c .before .before .before .before .before .before .at-frame .kept .1 .1 .1 .1 .1 .0)
     returns-4)

@@ -1,5 +1,4 @@
 -- Each way out is one case of the frame report.
-use borrow.Author.Needs.{needs}
 use borrow.Author.Tests.{not-true, not-false}
 use mathlib.Core.Path.{_≡_, sym, ap, ap₂, _∙_, subst⁻¹}
 use mathlib.Core.Bool.{Bool, true, false, _&&_}
@@ -19,7 +18,7 @@ use Rattle.protocol.specs.Causes.{agree}
 use Rattle.protocol.specs.Frame.{mark, five, slotBytes}
 use Rattle.protocol.specs.Lengths.{lastSlot, messageLen, bodyLen, frameLen, rowLen, receiverLen}
 use Rattle.protocol.proofs.HeaderTests.{mark-test, five-test, slot-test}
-use Rattle.receiver.proofs.Outcomes.{frameLengths, heard-settings, heard-length, heard-late, heard-mark, heard-five, heard-slot, heard-taken, moved-by}
+use Rattle.receiver.proofs.Outcomes.{frameLengths, heard-settings, heard-length, heard-late, heard-mark, heard-five, heard-slot, heard-taken, moved-by, next-fits}
 use Rattle.receiver.proofs.RowEnds.{kept}
 use Rattle.receiver.proofs.frame_report.heard.Statement.{statement}
 use Rattle.receiver.proofs.frame_report.heard.Tie as tie
@@ -192,6 +191,11 @@ told-requires c κs =
       lengths two .2,
     )
 
+add : tie.Need-add-t27
+add c =
+    let three = third (fourth (fifth (c .before .before .before .before .before .before .before .before .before .before))) in
+    next-fits (begun three .args .x .due) (time three)
+
 returns-7 : tie.Need-returns-7
 returns-7 c =
     let at-told = c .before .before .before in
@@ -211,27 +215,27 @@ pub heard-spec : {M : Type 1} → statement M
 heard-spec =
     tie.close
     (tie.spec
-    (λ c κs. search needs)
-    (λ c κs. search needs)
+    (λ c κs. tt)
+    (λ c κs. tt)
     returns
-    (λ c κs. search needs)
-    (λ c κs. search needs)
+    (λ c κs. tt)
+    (λ c κs. tt)
     returns-2
-    (λ c κs. search needs)
+    (λ c κs. tt)
     returns-3
-    (λ c κs. search needs)
+    (λ c κs. tt)
     (λ c κs. (omega arith, omega arith, headed (c .before)))
-    (λ c κs. search needs)
+    (λ c κs. tt)
     returns-4
     (λ c κs. (omega arith, omega arith, headed (third c)))
-    (λ c κs. search needs)
+    (λ c κs. tt)
     returns-5
     (λ c κs. (omega arith, omega arith, headed (third (fourth c))))
-    (λ c κs. search needs)
+    (λ c κs. tt)
     returns-6
     record-heard-requires
     told-requires
-    (λ c. search needs)
-    (λ c. search needs)
-    (λ c. search needs)
+    add
+    (λ c. c .before .before .before .before .before .before .before .before .record-heard .kept .0)
+    (λ c. c .before .before .before .told .kept .1 .1 .1 .0)
     returns-7)

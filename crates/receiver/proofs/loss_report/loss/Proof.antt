@@ -1,5 +1,4 @@
 -- Each way out is one case of the loss report.
-use borrow.Author.Needs.{needs}
 use borrow.Author.Tests.{not-true, not-false}
 use mathlib.Core.Path.{_≡_, sym, ap, ap₂, _∙_, subst⁻¹}
 use mathlib.Core.Bool.{true}
@@ -14,7 +13,7 @@ use Rattle.protocol.specs.declared.Receiver.{Receiver}
 use Rattle.protocol.specs.declared.Reply.{Reply}
 use Rattle.protocol.specs.Calls.{Reported}
 use Rattle.protocol.specs.Lengths.{lastSlot, messageLen, rowLen, receiverLen}
-use Rattle.receiver.proofs.Outcomes.{lossLengths, loss-settings, loss-length, loss-late, loss-taken, moved-by}
+use Rattle.receiver.proofs.Outcomes.{lossLengths, loss-settings, loss-length, loss-late, loss-taken, moved-by, next-fits}
 use Rattle.receiver.proofs.RowEnds.{kept}
 use Rattle.receiver.proofs.loss_report.loss.Statement.{statement}
 use Rattle.receiver.proofs.loss_report.loss.Tie as tie
@@ -103,6 +102,11 @@ told-requires c κs =
       fits two,
     )
 
+add : tie.Need-add-t21
+add c =
+    let three = c .before .before .before .before .before .before .before .before .before .before in
+    next-fits (start (first (second three)) .args .x .due) (time three)
+
 returns-4 : tie.Need-returns-4
 returns-4 c =
     let at-told = c .before .before .before in
@@ -118,17 +122,17 @@ pub loss-spec : {M : Type 1} → statement M
 loss-spec =
     tie.close
     (tie.spec
-    (λ c κs. search needs)
-    (λ c κs. search needs)
+    (λ c κs. tt)
+    (λ c κs. tt)
     returns
-    (λ c κs. search needs)
-    (λ c κs. search needs)
+    (λ c κs. tt)
+    (λ c κs. tt)
     returns-2
-    (λ c κs. search needs)
+    (λ c κs. tt)
     returns-3
     record-lost-requires
     told-requires
-    (λ c. search needs)
-    (λ c. search needs)
-    (λ c. search needs)
+    add
+    (λ c. c .before .before .before .before .before .before .before .before .record-lost .kept .0)
+    (λ c. c .before .before .before .told .kept .1 .1 .1 .0)
     returns-4)

@@ -80,9 +80,9 @@ pub record-heard-spec : {M : Type 1} → statement M
 record-heard-spec =
     tie.close
     (tie.spec
-    (λ c κs. search needs)
+    (λ c κs. tt)
     rem-row
-    (λ c κs. search needs)
+    (λ c κs. tt)
     mul-write-received
     sub-write-received
     part-write-received-start

@@ -49,9 +49,9 @@ pub record-lost-spec : {M : Type 1} → statement M
 record-lost-spec =
     tie.close
     (tie.spec
-    (λ c κs. search needs)
+    (λ c κs. tt)
     rem-row
-    (λ c κs. search needs)
+    (λ c κs. tt)
     mul-write-lost
     write-lost-requires
     (λ c. search needs)

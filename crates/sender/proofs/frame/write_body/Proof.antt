@@ -127,9 +127,9 @@ write-body-spec =
     μ-loop
     (λ c. search needs)
     write-at-requires
-    (λ c κs. search needs)
+    (λ c κs. tt)
     loop-holds
-    (λ c κs. search needs)
+    (λ c κs. tt)
     (λ c. omega (arith, within c))
     (λ c. omega (arith, within c))
     (λ c. omega (arith, within c))

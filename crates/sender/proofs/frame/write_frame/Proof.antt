@@ -23,6 +23,15 @@ write-at-requires : tie.Need-write-at-requires
 unfolding frameLen
 write-at-requires c κs = omega (arith, fourteen (c .before .before), c .before .before .before .before .before .before .pre .3)
 
+write-body-requires : tie.Need-write-body-requires
+write-body-requires c κs =
+    let wrote = c .before .before .before .before .before in
+    let pre = wrote .before .before .before .before .before .before .before .pre in
+    (pre .0, c .before .before .systematic .ensures, pre .1, pre .2, wrote .write-at .kept .0 ∙ pre .3)
+
+same-length : tie.Need-same-length
+same-length c = c .before .before .write-body .kept .0 ∙ c .before .before .before .before .before .before .before .before .write-at .kept .0
+
 returns : tie.Need-returns
 unfolding frameOf
 returns c =
@@ -41,10 +50,10 @@ pub write-frame-spec : {M : Type 1} → statement M
 write-frame-spec =
     tie.close
     (tie.spec
-    (λ c κs. search needs)
+    (λ c κs. tt)
     (λ c. search needs)
     write-at-requires
-    (λ c κs. search needs)
-    (λ c κs. search needs)
-    (λ c. search needs)
+    (λ c κs. tt)
+    write-body-requires
+    same-length
     returns)

@@ -124,14 +124,14 @@ gather-spec =
     Inv-loop
     μ-loop
     (λ c. search needs)
-    (λ c κs. search needs)
+    (λ c κs. tt)
     (λ c. let h = shape _ (c .before .before .before .pre .0) in omega (arith, c .symbols .ensures))
-    (λ c κs. search needs)
+    (λ c κs. tt)
     (λ c. let h = shaped c in omega (arith, c .before .symbols .ensures))
     (λ c. omega (arith, c .before .symbols .ensures))
     (λ c. let h = shaped c in omega (arith, c .before .symbols .ensures))
     loop-holds
-    (λ c κs. search needs)
+    (λ c κs. tt)
     (λ c. omega (arith, within c))
     (λ c. omega (arith, within c))
     (λ c. omega (arith, within c))

@@ -119,9 +119,9 @@ write-parity-spec =
     tie.close
     (tie.spec
     (λ c. search needs)
-    (λ c κs. search needs)
+    (λ c κs. tt)
     (λ c. let h = shaped c in omega (arith, c .sources .ensures))
-    (λ c κs. search needs)
+    (λ c κs. let pre = c .before .before .before .before .before .pre in (pre .0, pre .2, pre .4, pre .5))
     join-requires
     weighted-requires
     (λ c. lanes-few (c .before))

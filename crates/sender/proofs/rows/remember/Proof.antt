@@ -59,7 +59,7 @@ pub remember-spec : {M : Type 1} → statement M
 remember-spec =
     tie.close
     (tie.spec
-    (λ c κs. search needs)
+    (λ c κs. tt)
     (λ c. omega (arith, some c))
     (λ c. omega (arith, some c))
     mul-write-at
