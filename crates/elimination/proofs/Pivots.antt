@@ -79,6 +79,10 @@ pivot-found x p a (suc m) =
     searched-more x p a m (pivotFrom x p (suc a) m) (free (x .roles) a && not (eqb (cell (x .rows) a p) 0)) refl
     (pivot-found x p (suc a) m)
 
+-- a row that is not 16 is one of those searched
+pub pivot-below : (x : Reduced) (p k : ℕ) → pivotFrom x p 0 k < 16 → pivotFrom x p 0 k < k
+pivot-below x p k h = ⊎-elim (λ at. omega (arith, at .below)) (λ never. omega (arith, never .0)) (pivot-found x p 0 k)
+
 -- ---- one position
 
 -- with a row below 16 the position is cleared by it; with 16 nothing changes

@@ -17,17 +17,24 @@ use Rattle.elimination.specs.Elimination.{Reduced, cell, scaledAt, clear
 abbrev pub clearedRow : List (List ℕ) → ℕ → ℕ → ℕ → List ℕ
 clearedRow m r p q = table 16 (λ j. cond (eqb q r) (scaledAt m r p j) (cell m q j ⊕ cell m q p ⊗ scaledAt m r p j))
 
--- by the scaled pivot: it is that row where q is r, and else the row with position p cleared by it
-pub row-cleared : (m : List (List ℕ)) (r p q : ℕ) (b : Bool) → eqb q r ≡ b
-    → cond b (table 16 (scaledAt m r p))
-    (table 16 (λ j. cell m q j ⊕ cell m q p ⊗ getD (table 16 (scaledAt m r p)) j 0))
-    ≡ clearedRow m r p q
-row-cleared m r p q true e = rw e refl
-row-cleared m r p q false e =
-    rw e
-    (table-equal 16 (λ j. cell m q j ⊕ cell m q p ⊗ getD (table 16 (scaledAt m r p)) j 0)
+-- row q with position p cleared by the scaled pivot
+abbrev pub sweptRow : List (List ℕ) → ℕ → ℕ → ℕ → List ℕ
+sweptRow m r p q = table 16 (λ j. cell m q j ⊕ cell m q p ⊗ scaledAt m r p j)
+
+-- by the scaled pivot, as a list
+pub row-swept : (m : List (List ℕ)) (r p q : ℕ)
+    → table 16 (λ j. cell m q j ⊕ cell m q p ⊗ getD (table 16 (scaledAt m r p)) j 0) ≡ sweptRow m r p q
+row-swept m r p q =
+    table-equal 16 (λ j. cell m q j ⊕ cell m q p ⊗ getD (table 16 (scaledAt m r p)) j 0)
     (λ j. cell m q j ⊕ cell m q p ⊗ scaledAt m r p j)
-    (λ j h. ap (λ (x : ℕ). cell m q j ⊕ cell m q p ⊗ x) (getD-table 16 (scaledAt m r p) j 0 h)))
+    (λ j h. ap (λ (x : ℕ). cell m q j ⊕ cell m q p ⊗ x) (getD-table 16 (scaledAt m r p) j 0 h))
+
+-- the pivot's own row is the scaled one, and every other row is swept
+pub row-own : (m : List (List ℕ)) (r p q : ℕ) → eqb q r ≡ true → table 16 (scaledAt m r p) ≡ clearedRow m r p q
+row-own m r p q e = rw e refl
+
+pub row-other : (m : List (List ℕ)) (r p q : ℕ) → eqb q r ≡ false → sweptRow m r p q ≡ clearedRow m r p q
+row-other m r p q e = rw e refl
 
 -- a row by the reciprocal of a byte is the row divided by it
 pub row-divided : (row : List ℕ) (y : ℕ) → table 16 (λ j. reciprocal y ⊗ getD row j 0) ≡ table 16 (λ j. quotient (getD row j 0) y)

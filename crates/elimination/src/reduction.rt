@@ -12,7 +12,6 @@ ghost use lib.Dec.{eqb, ltb};
 ghost use lib.ListN.{length, getD, replicate};
 ghost use Rattle.galois.specs.Byte.{_⊕_, _⊗_, quotient};
 ghost use Rattle.galois.specs.Table.{table};
-ghost use Rattle.multiples.specs.Quarters.{quartersOf};
 ghost use Rattle.elimination.specs.Elimination.{pivotFrom, cleared, columnStep, reducedFrom};
 
 // The first row below k that is free and not 0 at position p, or 16.
@@ -43,29 +42,19 @@ fn scaled(row: [u8; 16], p: usize) -> [u8; 16]
     row_times(row, Gf256(row[p]).reciprocal().0)
 }
 
-// The pivot's row itself, or another row with position p cleared by it, from the quarters of the pivot's row.
-fn replaced(row: [u8; 16], pivot: [u8; 16], parts: &[[u8; 16]; 16], p: usize, own: bool) -> [u8; 16]
-    requires { ⌜ (p < 16) × (now parts ≡ quartersOf pivot) ⌝ }
-    ensures { λ r. ⌜ r ≡ cond own pivot (table 16 (λ j. getD row j 0 ⊕ getD row p 0 ⊗ getD pivot j 0)) ⌝ }
-{
-    if own {
-        return pivot;
-    }
-    row_by(row, row[p], parts)
-}
-
 // Row r is scaled to 1 at position p, which is cleared from every other of the first k rows.
 fn clear_column(rows: &mut [[u8; 16]; 16], r: usize, p: usize, k: usize)
-    requires { ⌜ (r < 16) × (p < 16) × (k ≤ 16) × (length (now rows) ≡ 16) ⌝ }
+    requires { ⌜ (r < k) × (p < 16) × (k ≤ 16) × (length (now rows) ≡ 16) ⌝ }
     ensures { λ _. ⌜ now (rows .exit) ≡ cleared k (now (rows .entry)) r p ⌝ }
 {
     let pivot = scaled(rows[r], p);
     let parts = quarters(pivot);
     let mut q: usize = 0;
     while q < k {
-        rows[q] = replaced(rows[q], pivot, &parts, p, q == r);
+        rows[q] = row_by(rows[q], rows[q][p], &parts);
         q += 1;
     }
+    rows[r] = pivot;
 }
 
 // One position: its pivot, if it is known and some row can be one.

@@ -6,8 +6,8 @@ use mathlib.Core.Logic.{_≢_}
 use Prim.Native.Nat.{ℕ, _+_, _*_, _-_, _≤_, _<_}
 use native.Mathlib.Omega.{arith}
 use borrow.Author.Tests.{lt-ltb, le-ltb, eqb-true, ne-eqb, eq-eqb}
-use lib.ListN.{length, getD, take, drop, replicate, length-replicate, getD-replicate, length-take, length-drop, replicate-append-replicate}
-use lib.Seq.{take-at, length-take-le, getD-take, getD-drop}
+use lib.ListN.{length, getD, take, drop, length-take, length-drop}
+use lib.Seq.{length-take-le, getD-take, getD-drop}
 use Rattle.galois.specs.Byte.{_⊕_, _⊗_}
 use Rattle.galois.specs.Sum.{sum}
 use Rattle.galois.specs.Table.{table}
@@ -21,14 +21,6 @@ use Rattle.code.specs.Settings.{kOf, nOf}
 use Rattle.code.proofs.Shape.{Shape}
 use Rattle.elimination.specs.Elimination.{Reduced, free, cell, combined}
 use Rattle.lanes.specs.Lanes.{laneByte, share, countOf, roleOf, rowByte, Own, Gathered, combinedLanes}
-
--- the first m of n zeros
-pub zeros-part : (m n : ℕ) → m ≤ n → take {A = ℕ} m (replicate n 0) ≡ replicate m 0
-zeros-part m n few =
-    let whole : n ≡ m + (n - m) = omega arith in
-    ap (λ (k : ℕ). take {A = ℕ} m (replicate k 0)) whole
-    ∙ ap (take {A = ℕ} m) (sym (replicate-append-replicate m (n - m) 0))
-    ∙ take-at (replicate m 0) (replicate (n - m) 0) m (length-replicate m 0)
 
 -- the bytes of a lane are those from the places on, and 0 outside the word
 module _ (s : Settings) (places bytes : List ℕ) (v p : ℕ) where
@@ -59,13 +51,6 @@ module _ (s : Settings) (places bytes : List ℕ) (p : ℕ) where
       let start : ℕ = getD places p 0 in
       is-table (s .lanes) (λ v. laneByte s places bytes v p) 0 (take (start + s .lanes - start) (drop start bytes))
       (omega (arith, length-take (start + s .lanes - start) (drop start bytes), length-drop start bytes)) (part-byte below)
-
-  -- and L zeros are those outside the word
-  pub zeros-table : nOf s ≤ p → s .lanes ≤ 64 → take {A = ℕ} (s .lanes) (replicate 64 0) ≡ table (s .lanes) (λ v. laneByte s places bytes v p)
-  zeros-table past few =
-      zeros-part (s .lanes) 64 few
-      ∙ is-table (s .lanes) (λ v. laneByte s places bytes v p) 0 (replicate (s .lanes) 0) (length-replicate (s .lanes) 0)
-      (λ v h. getD-replicate (s .lanes) v 0 0 h ∙ sym (lane-outside s places bytes v p past))
 
 -- the first L lanes of the weighted sum of the vectors
 module _ (s : Settings) (rows : List (List ℕ)) (q : ℕ) (pairs : List (List ℕ)) (count : ℕ) (sums : List ℕ) (made : sums ≡ weightedOf rows q pairs count) (few : s .lanes ≤ 64) where

@@ -1,14 +1,14 @@
 -- What elimination says of one symbol of all lanes at once. The L bytes of symbol p stand from its place on, a byte for each lane.
 use mathlib.Core.Path.{_≡_}
 use mathlib.Core.Bool.{Bool, true, false, cond, not, _&&_}
-use mathlib.Core.List.{List, []}
+use mathlib.Core.List.{List}
 use Prim.Native.Nat.{ℕ, _+_, _*_, _/_, _≤_, _<_}
 use lib.Dec.{T, eqb, ltb}
 use lib.ListN.{length, getD}
 use Rattle.galois.specs.Bounded.{any}
 use Rattle.galois.specs.Byte.{_⊗_}
 use Rattle.galois.specs.Table.{table}
-use Rattle.multiples.specs.Pairs.{vectorOf, Paired, weightedOf}
+use Rattle.multiples.specs.Pairs.{vectorOf, Wide, Paired, weightedOf}
 use Rattle.code.specs.declared.settings.Settings.{Settings}
 use Rattle.code.specs.Settings.{accepted, kOf, nOf}
 use Rattle.elimination.specs.Elimination.{Reduced, free, cell, combined, clashes, differs, knownIn}
@@ -26,10 +26,10 @@ laneByte s places bytes v p = cond (ltb p (nOf s)) (getD bytes (getD places p 0 
 abbrev pub share : Settings → Reduced → List ℕ → List ℕ → ℕ → ℕ → ℕ → ℕ
 share s x places bytes q r v = cond (free (x .roles) r) 0 (laneByte s places bytes v (getD (x .roles) r 16) ⊗ cell (x .rows) r q)
 
--- the zeros of each pair of a table of 32 vectors are zeros
+-- the pairs that a caller lends: 32 vectors of 64 lanes, each pair with zeros and its sum
 pub record Clear (pairs : List (List ℕ)) : Type 0 where
-  pub entries : length pairs ≡ 32
-  pub zeros : (j v : ℕ) → j < 8 → v < 64 → getD (getD pairs (j * 4) []) v 0 ≡ 0
+  pub wide : Wide pairs
+  pub paired : Paired 8 pairs
 
 -- where row i is the pivot of position i, column i is a unit
 abbrev pub Own : Settings → Reduced → ℕ → Type 0
@@ -46,6 +46,18 @@ roleOf s roles r = cond (ltb r (kOf s)) (getD roles r 16) 16
 -- the byte of lane v at the position of row r's pivot
 abbrev pub rowByte : Settings → List ℕ → List ℕ → List ℕ → ℕ → ℕ → ℕ
 rowByte s roles places bytes r v = laneByte s places bytes v (roleOf s roles r)
+
+-- the place of position p; that of position 0 where p is past the word
+unfoldable pub placeOf : Settings → List ℕ → ℕ → ℕ
+placeOf s places p = getD places (cond (ltb p (nOf s)) p 0) 0
+
+-- the L bytes from there on
+abbrev pub heldAt : Settings → List ℕ → List ℕ → ℕ → List ℕ
+heldAt s places bytes p = table (s .lanes) (λ v. getD bytes (placeOf s places p + v) 0)
+
+-- 255 for a position of the word, and 0 past it
+unfoldable pub keptOf : Settings → ℕ → ℕ
+keptOf s p = cond (ltb p (nOf s)) 255 0
 
 -- a table of pairs whose vectors are the bytes at the pivots' positions
 pub record Gathered (s : Settings) (roles places bytes : List ℕ) (pairs : List (List ℕ)) : Type 0 where

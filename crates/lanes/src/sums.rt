@@ -1,13 +1,13 @@
 // The vectors that the pivots' rows are multiplied by: the L bytes at each pivot's position, in pairs.
 use code::Settings;
-use multiples::join;
-use multiples::put;
+use multiples::pair_up;
 ghost use mathlib.Core.Path.{_≡_};
-ghost use Prim.Native.Nat.{_<_};
+ghost use Prim.Native.Nat.{_+_, _*_, _<_};
+ghost use lib.Dec.{T};
 ghost use lib.ListN.{length};
-ghost use Rattle.galois.specs.Table.{table};
-ghost use Rattle.multiples.specs.Pairs.{putAt};
-ghost use Rattle.lanes.specs.Lanes.{Held, Clear, Gathered, roleOf, rowByte};
+ghost use Rattle.multiples.specs.Pairs.{Wide, pairedUp};
+ghost use Rattle.code.specs.Settings.{accepted};
+ghost use Rattle.lanes.specs.Lanes.{Held, Clear, Gathered, roleOf, placeOf, heldAt, keptOf};
 
 // A byte as an index.
 fn wide(x: u8) -> usize
@@ -27,30 +27,55 @@ fn position(s: Settings, roles: &[u8; 16], r: usize) -> usize
     wide(roles[r])
 }
 
-// Puts the L bytes at the position of row r's pivot over vector r; zeros where it has none.
-fn put_share(
+// 255 for a position of the word, and 0 past it.
+fn kept(s: Settings, p: usize) -> u8
+    ensures { λ r. ⌜ r ≡ keptOf s p ⌝ }
+{
+    if s.symbols() <= p {
+        return 0;
+    }
+    255
+}
+
+// The place of position p; that of position 0 where p is past the word.
+fn place_of(s: Settings, places: &[usize; 16], p: usize) -> usize
+    requires { ⌜ T (accepted s) ⌝ }
+    ensures { λ r. ⌜ r ≡ placeOf s (now (places .entry)) p ⌝ }
+{
+    if p < s.symbols() {
+        return places[p];
+    }
+    places[0]
+}
+
+// Puts the L bytes at the positions of the pivots of rows 2j and 2j + 1 over pair j; zeros where a row has none.
+fn put_pair(
     s: Settings,
     roles: &[u8; 16],
     places: &[usize; 16],
     bytes: &[u8],
-    r: usize,
+    j: usize,
     pairs: &mut [[u8; 64]; 32],
 )
-    requires { ⌜ Held s (now places) (now bytes) × (length (now roles) ≡ 16) × (r < 16) ⌝ }
-    ensures { λ _. ⌜ now (pairs .exit) ≡ putAt (now (pairs .entry)) r (table (s .lanes) (rowByte s (now (roles .entry)) (now (places .entry)) (now (bytes .entry)) r)) ⌝ }
+    requires { ⌜ Held s (now places) (now bytes) × (length (now roles) ≡ 16) × (j < 8) × Wide (now pairs) ⌝ }
+    ensures { λ _. ⌜ now (pairs .exit) ≡ pairedUp (now (pairs .entry)) j (heldAt s (now (places .entry)) (now (bytes .entry)) (roleOf s (now (roles .entry)) (j * 2))) (keptOf s (roleOf s (now (roles .entry)) (j * 2))) (heldAt s (now (places .entry)) (now (bytes .entry)) (roleOf s (now (roles .entry)) (j * 2 + 1))) (keptOf s (roleOf s (now (roles .entry)) (j * 2 + 1))) ⌝ }
 {
-    let p = position(s, roles, r);
     let lanes = s.lanes as usize;
-    if s.symbols() <= p {
-        let zeros = [0u8; 64];
-        put(pairs, r, &zeros[..lanes]);
-        return;
-    }
-    let start = places[p];
-    put(pairs, r, &bytes[start..start + lanes]);
+    let a = position(s, roles, j * 2);
+    let b = position(s, roles, j * 2 + 1);
+    let at = place_of(s, places, a);
+    let bt = place_of(s, places, b);
+    pair_up(
+        pairs,
+        j,
+        &bytes[at..at + lanes],
+        kept(s, a),
+        &bytes[bt..bt + lanes],
+        kept(s, b),
+    );
 }
 
-// Puts the vectors of all rows, and joins their pairs.
+// Puts the vectors of all rows, a pair at a time.
 pub(crate) fn gather(
     s: Settings,
     roles: &[u8; 16],
@@ -62,10 +87,9 @@ pub(crate) fn gather(
     ensures { λ _. ⌜ Gathered s (now (roles .entry)) (now (places .entry)) (now (bytes .entry)) (now (pairs .exit)) ⌝ }
 {
     let count = (s.sources() + 1) / 2;
-    let mut r: usize = 0;
-    while r < 2 * count {
-        put_share(s, roles, places, bytes, r, pairs);
-        r += 1;
+    let mut j: usize = 0;
+    while j < count {
+        put_pair(s, roles, places, bytes, j, pairs);
+        j += 1;
     }
-    join(pairs, count);
 }

@@ -2,9 +2,10 @@
 -- number is made of four bits by doubling, and a byte of its two halves.
 use mathlib.Core.Path.{_≡_, sym, ap, ap₂, _∙_, subst}
 use mathlib.Core.List.{List, []}
-use Prim.Native.Nat.{ℕ, zero, suc, _+_, _*_, _/_, _%_, _^_, _<_}
-use native.Mathlib.Nat.{mod-lt, zero-lt-suc, div-one}
+use Prim.Native.Nat.{ℕ, zero, suc, _+_, _*_, _/_, _%_, _^_, _<_, _≤_}
+use native.Mathlib.Nat.{mod-lt, zero-lt-suc, div-one, mul-zero, mul-one}
 use native.Mathlib.Omega.{arith}
+use lib.Bits.{bitOr, or-add-and, and-le-l, and-le-r}
 use lib.ListN.{getD, replicate, getD-replicate}
 use lib.Pow.{shr-shr}
 use Rattle.galois.specs.Bounded.{every}
@@ -16,8 +17,8 @@ use Rattle.galois.proofs.ByIndex.{getD-table, table-equal}
 use Rattle.galois.proofs.ByteProduct.{distributes, distributes-left, times-assoc, zero-times, one-times}
 use Rattle.galois.proofs.Cases.{equal}
 use Rattle.galois.proofs.Sums.{sum-equal, sum-plus, multiple-of-sum}
-use Rattle.galois.proofs.Xor.{plus-assoc, plus-self, plus-zero, zero-plus}
-use Rattle.multiples.specs.Pairs.{place, vectorOf, Paired}
+use Rattle.galois.proofs.Xor.{plus-assoc, plus-comm, plus-self, plus-zero, zero-plus}
+use Rattle.multiples.specs.Pairs.{vectorOf, Paired}
 
 -- lane v of entry e
 abbrev pub lane : List (List ℕ) → ℕ → ℕ → ℕ
@@ -34,12 +35,10 @@ termAt rows q b pairs v i = bitAt rows q b i ⊗ getD (vectorOf pairs i) v 0
 -- ---- a pair of bits picks an entry
 
 -- where the two vectors of pair j stand
-first-place : (j : ℕ) → place (j * 2) ≡ j * 4 + 1
-unfolding place
+first-place : (j : ℕ) → j * 2 / 2 * 4 + (1 + j * 2 % 2) ≡ j * 4 + 1
 first-place j = omega arith
 
-second-place : (j : ℕ) → place (suc (j * 2)) ≡ j * 4 + 2
-unfolding place
+second-place : (j : ℕ) → suc (j * 2) / 2 * 4 + (1 + suc (j * 2) % 2) ≡ j * 4 + 2
 second-place j = omega arith
 
 module _ (count : ℕ) (pairs : List (List ℕ)) (paired : Paired count pairs) (j v : ℕ) (hj : j < count) (hv : v < 64) where
@@ -211,3 +210,50 @@ by-both-halves m c y =
     ap (λ (s : ℕ). sum m (λ i. (c i / 2 ^ 0 % 16) ⊗ y i) ⊕ s) (multiple-of-sum alpha m (λ i. (c i / 2 ^ 4 % 16) ⊗ y i))
     ∙ sym (sum-plus m (λ i. (c i / 2 ^ 0 % 16) ⊗ y i) (λ i. alpha ⊗ ((c i / 2 ^ 4 % 16) ⊗ y i)))
     ∙ sum-equal m (λ i. (c i / 2 ^ 0 % 16) ⊗ y i ⊕ alpha ⊗ ((c i / 2 ^ 4 % 16) ⊗ y i)) (λ i. c i ⊗ y i) (λ i h. by-halves (c i) (y i))
+
+-- the same of one byte, α times the high half first
+pub both-halves : (c y : ℕ) → alpha ⊗ ((c / 16 % 16) ⊗ y) ⊕ (c % 16) ⊗ y ≡ c ⊗ y
+both-halves c y =
+    plus-comm (alpha ⊗ ((c / 16 % 16) ⊗ y)) ((c % 16) ⊗ y)
+    ∙ ap (λ (n : ℕ). (n % 16) ⊗ y ⊕ alpha ⊗ ((c / 16 % 16) ⊗ y)) (sym (div-one c))
+    ∙ by-halves c y
+
+-- ---- one byte by the four bits of a narrow number
+
+-- a byte by a bit
+bit-times : (x d : ℕ) → x < 256 → d < 2 → x * d ≡ d ⊗ x
+bit-times x zero hx hd = mul-zero x ∙ sym (zero-times x)
+bit-times x (suc zero) hx hd = mul-one x ∙ sym (one-times x hx)
+bit-times x (suc (suc d)) hx hd = omega arith
+
+-- the byte where a bit is set, the highest bit first, each step doubled before the next, is the byte by the narrow number of the bits
+pub times-four-bits : (x c : ℕ) → x < 256
+    → 2 ⊗ (2 ⊗ (2 ⊗ (x * (c / 8 % 2)) ⊕ x * (c / 4 % 2)) ⊕ x * (c / 2 % 2)) ⊕ x * (c % 2) ≡ (c % 16) ⊗ x
+unfolding fromBits
+times-four-bits x c hx =
+    let a = c % 16 in
+    let term : (n d : ℕ) → n % 2 ≡ d → x * (n % 2) ≡ d ⊗ x =
+    λ n d e. bit-times x (n % 2) hx (mod-lt n (zero-lt-suc 1)) ∙ ap (λ (k : ℕ). k ⊗ x) e in
+    ap₂ (λ (y z : ℕ). fromBits y z (x * (c / 2 % 2)) (x * (c % 2)))
+    (term (c / 8) (a / 8 % 2) (omega arith)) (term (c / 4) (a / 4 % 2) (omega arith))
+    ∙ ap₂ (λ (y z : ℕ). fromBits ((a / 8 % 2) ⊗ x) ((a / 4 % 2) ⊗ x) y z)
+    (term (c / 2) (a / 2 % 2) (omega arith)) (term c (a % 2) (omega arith))
+    ∙ from-bits-times (a / 8 % 2) (a / 4 % 2) (a / 2 % 2) (a % 2) x
+    ∙ ap (λ (k : ℕ). k ⊗ x) (four-bits a (mod-lt c (zero-lt-suc 15)))
+
+-- ---- coefficients below 32
+
+-- bits laid over bits are a number below neither
+pub or-above-left : (x y : ℕ) → x ≤ bitOr x y
+or-above-left x y = omega (arith, or-add-and x y, and-le-r x y)
+
+pub or-above-right : (x y : ℕ) → y ≤ bitOr x y
+or-above-right x y = omega (arith, or-add-and x y, and-le-l x y)
+
+-- the upper half of a coefficient below 32 is one bit, so one plane added to zeros is the sum by the upper halves
+pub one-plane : (m : ℕ) (c y : ℕ → ℕ) → ((i : ℕ) → i < m → c i < 32)
+    → 0 ⊕ sum m (λ i. (c i / 2 ^ 4 % 2) ⊗ y i) ≡ sum m (λ i. (c i / 2 ^ 4 % 16) ⊗ y i)
+one-plane m c y small =
+    zero-plus (sum m (λ i. (c i / 2 ^ 4 % 2) ⊗ y i))
+    ∙ sum-equal m (λ i. (c i / 2 ^ 4 % 2) ⊗ y i) (λ i. (c i / 2 ^ 4 % 16) ⊗ y i)
+    (λ i h. ap (λ (n : ℕ). n ⊗ y i) (omega (arith, small i h)))

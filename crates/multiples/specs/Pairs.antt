@@ -1,35 +1,44 @@
 -- Sixteen vectors of 64 lanes in eight pairs: entry 4j of their table is zeros, entries 4j + 1 and 4j + 2 are the two vectors of pair j, and
 -- entry 4j + 3 is their sum.
 use mathlib.Core.Path.{_≡_}
-use mathlib.Core.Bool.{cond, _&&_}
+use mathlib.Core.Bool.{cond}
 use mathlib.Core.List.{List, []}
-use Prim.Native.Nat.{ℕ, _+_, _-_, _*_, _/_, _%_, _<_}
-use lib.Dec.{eqb, ltb}
+use Prim.Native.Nat.{ℕ, _+_, _*_, _/_, _%_, _<_}
+use lib.Bits.{bitAnd}
+use lib.Dec.{ltb}
 use lib.ListN.{length, getD, set}
 use Rattle.galois.specs.Byte.{_⊕_, _⊗_}
 use Rattle.galois.specs.Sum.{sum}
 use Rattle.galois.specs.Table.{table}
 
--- where vector i stands
-unfoldable pub place : ℕ → ℕ
-place i = i / 2 * 4 + (1 + i % 2)
-
 -- vector i
 unfoldable pub vectorOf : List (List ℕ) → ℕ → List ℕ
-vectorOf pairs i = getD pairs (place i) []
+vectorOf pairs i = getD pairs (i / 2 * 4 + (1 + i % 2)) []
 
--- the table with bytes put over the first lanes of vector i
-unfoldable pub putAt : List (List ℕ) → ℕ → List ℕ → List (List ℕ)
-putAt pairs i bytes =
-    set pairs (place i) (table 64 (λ v. cond (ltb v (length bytes)) (getD bytes v 0) (getD (vectorOf pairs i) v 0)))
+-- 32 vectors of 64 lanes
+pub record Wide (pairs : List (List ℕ)) : Type 0 where
+  pub entries : length pairs ≡ 32
+  pub lanes : (e : ℕ) → e < 32 → length (getD pairs e []) ≡ 64
 
--- the table with the sums of its first pairs
-unfoldable pub joinedOf : ℕ → List (List ℕ) → List (List ℕ)
-joinedOf count pairs =
-    table 32 (λ e.
-    cond (ltb (e / 4) count && eqb (e % 4) 3)
-    (table 64 (λ v. getD (getD pairs (e - 2) []) v 0 ⊕ getD (getD pairs (e - 1) []) v 0))
-    (getD pairs e []))
+-- a byte where the mask is 255, and 0 where it is 0
+unfoldable pub masked : ℕ → ℕ → ℕ
+masked x mask = bitAnd x mask
+
+-- a vector with f over its first m lanes
+unfoldable pub laid : List ℕ → ℕ → (ℕ → ℕ) → List ℕ
+laid vector m f = table 64 (λ v. cond (ltb v m) (f v) (getD vector v 0))
+
+-- pair j with bytes over the first lanes of its two vectors and of their sum
+unfoldable pub pairedUp : List (List ℕ) → ℕ → List ℕ → ℕ → List ℕ → ℕ → List (List ℕ)
+pairedUp pairs j first keepFirst second keepSecond =
+    set
+    (set
+    (set pairs (j * 4 + 1) (laid (getD pairs (j * 4 + 1) []) (length first) (λ v. masked (getD first v 0) keepFirst)))
+    (j * 4 + 2)
+    (laid (getD pairs (j * 4 + 2) []) (length first) (λ v. masked (getD second v 0) keepSecond)))
+    (j * 4 + 3)
+    (laid (getD pairs (j * 4 + 3) []) (length first)
+    (λ v. masked (getD first v 0) keepFirst ⊕ masked (getD second v 0) keepSecond))
 
 -- the zeros and the sums of the first pairs stand in their places
 pub record Paired (count : ℕ) (pairs : List (List ℕ)) : Type 0 where

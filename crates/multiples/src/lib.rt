@@ -4,8 +4,7 @@ mod rows;
 mod sums;
 mod times;
 
-pub use pairing::join;
-pub use pairing::put;
+pub use pairing::pair_up;
 pub use rows::quarters;
 pub use rows::row_by;
 pub use rows::row_plus;

@@ -1,57 +1,29 @@
-// Sixteen vectors of lanes in eight pairs, each with zeros and with its sum: bytes put over a vector, and the sums of the pairs.
+// Sixteen vectors of lanes in eight pairs, each with zeros and with its sum: bytes put over the two vectors of a pair, and over their sum.
 ghost use mathlib.Core.Path.{_≡_};
-ghost use mathlib.Core.Bool.{cond};
 ghost use Prim.Native.Nat.{_<_, _≤_};
-ghost use lib.Dec.{ltb};
-ghost use lib.ListN.{length, getD};
-ghost use Rattle.galois.specs.Byte.{_⊕_};
-ghost use Rattle.galois.specs.Table.{table};
-ghost use Rattle.multiples.specs.Pairs.{putAt, joinedOf};
+ghost use lib.ListN.{length};
+ghost use Rattle.multiples.specs.Pairs.{Wide, pairedUp};
 
-// A vector with bytes over its first lanes.
-fn copied(vector: [u8; 64], bytes: &[u8]) -> [u8; 64]
-    requires { ⌜ length (now bytes) ≤ 64 ⌝ }
-    ensures { λ r. ⌜ r ≡ table 64 (λ v. cond (ltb v (length (now (bytes .entry)))) (getD (now (bytes .entry)) v 0) (getD vector v 0)) ⌝ }
+// Puts bytes over the first lanes of the two vectors of pair j, each byte under the mask of its vector, and their sums over the third.
+pub fn pair_up(
+    pairs: &mut [[u8; 64]; 32],
+    j: usize,
+    first: &[u8],
+    keep_first: u8,
+    second: &[u8],
+    keep_second: u8,
+)
+    requires { ⌜ (j < 8) × (length (now second) ≡ length (now first)) × (length (now first) ≤ 64) × Wide (now pairs) ⌝ }
+    ensures { λ _. ⌜ now (pairs .exit) ≡ pairedUp (now (pairs .entry)) j (now (first .entry)) «keep_first» (now (second .entry)) «keep_second» ⌝ }
 {
-    let mut out = vector;
+    let e = j * 4;
     let mut v: usize = 0;
-    while v < bytes.len() {
-        out[v] = bytes[v];
+    while v < first.len() {
+        let x = first[v] & keep_first;
+        let y = second[v] & keep_second;
+        pairs[e + 1][v] = x;
+        pairs[e + 2][v] = y;
+        pairs[e + 3][v] = x ^ y;
         v += 1;
-    }
-    out
-}
-
-// The sum of two vectors, lane by lane.
-fn added(vector: [u8; 64], other: &[u8; 64]) -> [u8; 64]
-    ensures { λ r. ⌜ r ≡ table 64 (λ v. getD vector v 0 ⊕ getD (now (other .entry)) v 0) ⌝ }
-{
-    let mut out = vector;
-    let mut v: usize = 0;
-    while v < 64 {
-        out[v] = out[v] ^ other[v];
-        v += 1;
-    }
-    out
-}
-
-// Puts bytes over the first lanes of vector i.
-pub fn put(pairs: &mut [[u8; 64]; 32], i: usize, bytes: &[u8])
-    requires { ⌜ (i < 16) × (length (now bytes) ≤ 64) ⌝ }
-    ensures { λ _. ⌜ now (pairs .exit) ≡ putAt (now (pairs .entry)) i (now (bytes .entry)) ⌝ }
-{
-    let e = i / 2 * 4 + (1 + i % 2);
-    pairs[e] = copied(pairs[e], bytes);
-}
-
-// The sum of each of the first pairs.
-pub fn join(pairs: &mut [[u8; 64]; 32], count: usize)
-    requires { ⌜ (count ≤ 8) × (length (now pairs) ≡ 32) ⌝ }
-    ensures { λ _. ⌜ now (pairs .exit) ≡ joinedOf count (now (pairs .entry)) ⌝ }
-{
-    let mut j: usize = 0;
-    while j < count {
-        pairs[4 * j + 3] = added(pairs[4 * j + 1], &pairs[4 * j + 2]);
-        j += 1;
     }
 }

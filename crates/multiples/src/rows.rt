@@ -1,10 +1,11 @@
 // Multiples of rows. A byte is the sum of its four digits in base 4, each by its power of 4, so that a multiple of a row is the sum of
 // four out of 16 multiples, which are made once for all the bytes that multiply the row.
+// A single multiple of a row is made bit by bit, with no table.
 use crate::times::alpha_times;
 use crate::times::doubled;
 ghost use mathlib.Core.List.{List};
 ghost use mathlib.Core.Path.{_≡_};
-ghost use Prim.Native.Nat.{ℕ};
+ghost use Prim.Native.Nat.{ℕ, _*_, _%_};
 ghost use lib.ListN.{getD};
 ghost use Rattle.galois.specs.Byte.{_⊕_, _⊗_};
 ghost use Rattle.galois.specs.Table.{table};
@@ -67,9 +68,31 @@ pub fn row_plus(row: [u8; 16], c: u8, other: [u8; 16]) -> [u8; 16]
     row_by(row, c, &parts)
 }
 
+// A byte where a number is odd, else 0.
+fn where_odd(x: u8, c: u8) -> u8
+    ensures { λ r. ⌜ r ≡ x * (c % 2) ⌝ }
+{
+    x * (c % 2)
+}
+
+// A byte times the low half of another, bit by bit from the highest, with a doubling before each but the first.
+fn by_bits(x: u8, c: u8) -> u8
+    ensures { λ r. ⌜ r ≡ (c % 16) ⊗ x ⌝ }
+{
+    let four = doubled(where_odd(x, c / 8)) ^ where_odd(x, c / 4);
+    let two = doubled(four) ^ where_odd(x, c / 2);
+    doubled(two) ^ where_odd(x, c)
+}
+
 // c times a row.
 pub fn row_times(row: [u8; 16], c: u8) -> [u8; 16]
     ensures { λ r. ⌜ r ≡ table 16 (λ j. c ⊗ getD row j 0) ⌝ }
 {
-    row_plus([0u8; 16], c, row)
+    let mut out = [0u8; 16];
+    let mut j: usize = 0;
+    while j < 16 {
+        out[j] = alpha_times(by_bits(row[j], c / 16)) ^ by_bits(row[j], c);
+        j += 1;
+    }
+    out
 }

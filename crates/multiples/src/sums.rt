@@ -84,12 +84,39 @@ fn by_nibble(
     total
 }
 
+// The bits that some coefficient in column q has: as a number, no coefficient is above it.
+fn bits_used(rows: &[[u8; 16]; 16], q: usize, count: usize) -> u8
+    requires { ⌜ (q < 16) × (count ≤ 8) ⌝ }
+    ensures { λ r. ⌜ ((i : ℕ) → i < count * 2 → getD (getD (now (rows .entry)) i []) q 0 ≤ r) ⌝ }
+{
+    let mut bits: u8 = 0;
+    let mut i: usize = 0;
+    while i < 2 * count {
+        bits = bits | rows[i][q];
+        i += 1;
+    }
+    bits
+}
+
+// The sum of the vectors, each by the upper half of its coefficient: one plane where no coefficient has a bit above it.
+fn by_upper(rows: &[[u8; 16]; 16], q: usize, pairs: &[[u8; 64]; 32], count: usize) -> [u8; 64]
+    requires { ⌜ (q < 16) × (count ≤ 8) × Paired count (now pairs) ⌝ }
+    ensures { λ r. ⌜ r ≡ table 64 (λ v. sum (count * 2) (λ i. (getD (getD (now (rows .entry)) i []) q 0 / 2 ^ 4 % 16) ⊗ getD (vectorOf (now (pairs .entry)) i) v 0)) ⌝ }
+{
+    if bits_used(rows, q, count) < 32 {
+        let mut total = [0u8; 64];
+        add_plane(&mut total, rows, q, 4, pairs, count);
+        return total;
+    }
+    by_nibble(rows, q, 4, pairs, count)
+}
+
 // The sum of the vectors, each by its coefficient in column q.
 pub fn weighted(rows: &[[u8; 16]; 16], q: usize, pairs: &[[u8; 64]; 32], count: usize) -> [u8; 64]
     requires { ⌜ (q < 16) × (count ≤ 8) × Paired count (now pairs) ⌝ }
     ensures { λ r. ⌜ r ≡ weightedOf (now (rows .entry)) q (now (pairs .entry)) count ⌝ }
 {
-    let high = by_nibble(rows, q, 4, pairs, count);
+    let high = by_upper(rows, q, pairs, count);
     let low = by_nibble(rows, q, 0, pairs, count);
     let mut out = [0u8; 64];
     let mut v: usize = 0;

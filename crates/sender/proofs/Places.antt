@@ -1,13 +1,13 @@
 -- The lengths of accepted settings are small, and where rows and symbols stand in the sender's rows and in a body.
-use mathlib.Core.Path.{_≡_, sym, ap, _∙_}
-use Prim.Native.Nat.{ℕ, suc, _+_, _-_, _*_, _/_, _%_, _≤_, _<_}
-use native.Mathlib.Nat.{mul-le-mul, mul-le-mul-right, suc-mul, div-add-mod'}
+use mathlib.Core.Path.{_≡_, ap, _∙_}
+use Prim.Native.Nat.{ℕ, _+_, _-_, _*_, _%_, _≤_, _<_}
+use native.Mathlib.Nat.{mul-le-mul, mul-le-mul-right, suc-mul, mod-lt, mod-add-mod}
 use native.Mathlib.Omega.{arith}
-use lib.Arith.{digits-mod}
 use Rattle.code.specs.declared.settings.Settings.{Settings}
 use Rattle.code.specs.Settings.{kOf, nOf}
 use Rattle.code.proofs.Shape.{Shape}
 use Rattle.protocol.specs.Lengths.{messageLen, bodyLen, senderLen}
+use Rattle.sender.specs.Gathering.{rowOf}
 
 module _ (s : Settings) (h : Shape s) where
   pub message-few : messageLen s ≤ 1024
@@ -42,16 +42,23 @@ module _ (s : Settings) (h : Shape s) where
   unfolding bodyLen
   symbol-ends p hp = omega (arith, mul-le-mul-right (s .lanes) hp, suc-mul p (s .lanes))
 
--- row x mod R of a ring of R rows: the one after it
-pub row-after : (R x row : ℕ) → row ≡ x % R → row + 1 < R → row + 1 ≡ (x + 1) % R
-row-after R x row is more =
-    sym (ap (λ (y : ℕ). y % R) (omega (arith, div-add-mod' x R)) ∙ digits-mod (x / R) {m = R} {r = row + 1} more)
+-- ---- rows of the ring
 
--- and row 0 after the last one
-pub row-wraps : (R x row : ℕ) → row ≡ x % R → row + 1 ≡ R → 0 ≡ (x + 1) % R
-row-wraps R x row is last =
-    sym (ap (λ (y : ℕ). y % R) (omega (arith, div-add-mod' x R, suc-mul (x / R) R)) ∙ digits-mod (suc (x / R)) {m = R} {r = 0} (omega arith))
+module _ (s : Settings) (t p : ℕ) where
+  -- the row of source symbol 0
+  pub row-first : (t + (nOf s - 1) - p) % (nOf s - 1) ≡ rowOf s t p 0
+  unfolding rowOf
+  row-first = ap (λ (x : ℕ). x % (nOf s - 1)) (omega arith)
 
--- of position p the source symbol i + 1 is of one slot later than source symbol i
-pub slot-after : (due R p i : ℕ) → i < p → p ≤ R → due + R - (p - i) + 1 ≡ due + R - (p - (i + 1))
-slot-after due R p i hi hp = omega arith
+  -- each source symbol stands a row further on
+  pub row-next : (i row : ℕ) → row ≡ rowOf s t p i → (row + 1) % (nOf s - 1) ≡ rowOf s t p (i + 1)
+  unfolding rowOf
+  row-next i row is =
+      let x : ℕ = t + (nOf s - 1) - p + i in
+      let more : x + 1 ≡ t + (nOf s - 1) - p + (i + 1) = omega arith in
+      ap (λ (r : ℕ). (r + 1) % (nOf s - 1)) is ∙ mod-add-mod x (nOf s - 1) 1 ∙ ap (λ (y : ℕ). y % (nOf s - 1)) more
+
+  -- and every row is one of the ring
+  pub row-below : (i : ℕ) → 0 < nOf s - 1 → rowOf s t p i < nOf s - 1
+  unfolding rowOf
+  row-below i some = mod-lt (t + (nOf s - 1) - p + i) some

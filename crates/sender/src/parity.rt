@@ -1,41 +1,68 @@
 // The parity symbols of a frame: sums of multiples of the source symbols that the rows hold.
 use code::Settings;
-use multiples::join;
-use multiples::put;
+use multiples::pair_up;
 use multiples::weighted;
 use protocol::message_len;
 use protocol::write_at;
 ghost use mathlib.Core.Path.{_≡_};
-ghost use Prim.Native.Nat.{_-_, _≤_, _<_};
+ghost use Prim.Native.Nat.{_+_, _-_, _*_, _%_, _≤_, _<_};
 ghost use lib.Dec.{T};
 ghost use lib.ListN.{length};
 ghost use Rattle.galois.specs.Table.{table};
-ghost use Rattle.multiples.specs.Pairs.{Paired};
+ghost use Rattle.multiples.specs.Pairs.{Wide, Paired};
 ghost use Rattle.code.specs.Settings.{accepted, kOf, nOf};
 ghost use Rattle.code.specs.Word.{symbol, systematicOf};
 ghost use Rattle.protocol.specs.Frame.{remembered};
 ghost use Rattle.protocol.specs.Lengths.{senderLen};
-ghost use Rattle.sender.specs.Gathering.{pairsOf, gatheredOf};
+ghost use Rattle.sender.specs.Gathering.{pairsOf, pairPut, gatheredOf};
 
-// Gathers the k source symbols of every lane that position p is the sum of.
-// Source symbol i is of the message sent p - i slots before the slot due, so that each stands a row further on in the ring.
-fn gather(pairs: &mut [[u8; 64]; 32], rows: &[u8], s: Settings, due: u32, p: usize)
-    requires { ⌜ T (accepted s) × (length (now rows) ≡ senderLen s) × (kOf s ≤ p) × (p < nOf s) ⌝ }
-    ensures { λ _. ⌜ now (pairs .exit) ≡ gatheredOf s (now (rows .entry)) due p (kOf s) (now (pairs .entry)) ⌝ }
+// The row after one of the ring.
+fn next_row(row: usize, ring: usize) -> usize
+    requires { ⌜ row < ring ⌝ }
+    ensures { λ r. ⌜ r ≡ (row + 1) % ring ⌝ }
+{
+    let next = row + 1;
+    if next == ring { 0 } else { next }
+}
+
+// Puts source symbols 2j and 2j + 1 of every lane, each from its row, into pair j. Past the last source symbol no byte is kept.
+fn put_pair(pairs: &mut [[u8; 64]; 32], rows: &[u8], s: Settings, row: usize, next: usize, j: usize)
+    requires { ⌜ T (accepted s) × (length (now rows) ≡ senderLen s) × (row < nOf s - 1) × (next < nOf s - 1) × (j * 2 < kOf s) × Wide (now pairs) ⌝ }
+    ensures { λ _. ⌜ now (pairs .exit) ≡ pairPut s (now (rows .entry)) row next j (now (pairs .entry)) ⌝ }
 {
     let lanes = s.lanes as usize;
-    let ring = s.symbols() - 1;
     let size = message_len(s);
+    let first = row * size + j * 2 * lanes;
+    let mut second = first;
+    let mut keep: u8 = 0;
+    if j * 2 + 1 < s.sources() {
+        second = next * size + (j * 2 + 1) * lanes;
+        keep = 255;
+    }
+    pair_up(
+        pairs,
+        j,
+        &rows[first..first + lanes],
+        255,
+        &rows[second..second + lanes],
+        keep,
+    );
+}
+
+// Gathers the k source symbols of every lane that position p is the sum of, two a turn.
+// Source symbol i is of the message sent p - i slots before the slot due, so that each stands a row further on in the ring.
+fn gather(pairs: &mut [[u8; 64]; 32], rows: &[u8], s: Settings, due: u32, p: usize)
+    requires { ⌜ T (accepted s) × (length (now rows) ≡ senderLen s) × (kOf s ≤ p) × (p < nOf s) × Wide (now pairs) ⌝ }
+    ensures { λ _. ⌜ now (pairs .exit) ≡ gatheredOf s (now (rows .entry)) due p (pairsOf s) (now (pairs .entry)) ⌝ }
+{
+    let ring = s.symbols() - 1;
     let mut row = (due as usize + ring - p) % ring;
-    let mut i: usize = 0;
-    while i < s.sources() {
-        let start = row * size + i * lanes;
-        put(pairs, i, &rows[start..start + lanes]);
-        row += 1;
-        if row == ring {
-            row = 0;
-        }
-        i += 1;
+    let mut j: usize = 0;
+    while j * 2 < s.sources() {
+        let next = next_row(row, ring);
+        put_pair(pairs, rows, s, row, next, j);
+        row = next_row(next, ring);
+        j += 1;
     }
 }
 
@@ -49,13 +76,12 @@ pub(crate) fn write_parity(
     p: usize,
     pairs: &mut [[u8; 64]; 32],
 )
-    requires { ⌜ T (accepted s) × (now form ≡ systematicOf s) × (length (now rows) ≡ senderLen s) × (length (now out) ≡ s .lanes) × (kOf s ≤ p) × (p < nOf s) × (length (now pairs) ≡ 32) × Paired (pairsOf s) (now pairs) ⌝ }
-    ensures { λ _. ⌜ (now (out .exit) ≡ table (s .lanes) (λ v. symbol s (λ i. remembered s (now (rows .entry)) due (p - i) i v) p)) × (length (now (pairs .exit)) ≡ 32) × Paired (pairsOf s) (now (pairs .exit)) ⌝ }
+    requires { ⌜ T (accepted s) × (now form ≡ systematicOf s) × (length (now rows) ≡ senderLen s) × (length (now out) ≡ s .lanes) × (kOf s ≤ p) × (p < nOf s) × Wide (now pairs) × Paired (pairsOf s) (now pairs) ⌝ }
+    ensures { λ _. ⌜ (now (out .exit) ≡ table (s .lanes) (λ v. symbol s (λ i. remembered s (now (rows .entry)) due (p - i) i v) p)) × Wide (now (pairs .exit)) × Paired (pairsOf s) (now (pairs .exit)) ⌝ }
 {
     let lanes = s.lanes as usize;
     let count = (s.sources() + 1) / 2;
     gather(pairs, rows, s, due, p);
-    join(pairs, count);
     let sum = weighted(form, p, pairs, count);
     write_at(out, 0, &sum[..lanes]);
 }

@@ -9,6 +9,7 @@ use denote.Ref.{now}
 use lib.Dec.{eqb}
 use lib.ListN.{set}
 use Rattle.elimination.specs.Elimination.{Reduced, pivotFrom, cleared}
+use Rattle.elimination.proofs.Pivots.{pivot-below}
 use Rattle.elimination.proofs.Rewritten.{unknown-step, no-pivot-step, pivot-step}
 use Rattle.elimination.proofs.reduction.column_step.Statement.{statement}
 use Rattle.elimination.proofs.reduction.column_step.Tie as tie
@@ -35,5 +36,18 @@ returns-3 c =
     ∙ ap (λ (r : ℕ). both (cleared (a .k) (now (a .rows)) r (a .p)) (set (now (a .roles)) r (a .p))) found
     ∙ pivot-step (a .k) (a .p) x (eqb (a .flag) 1) (eq-eqb (a .flag) 1 (omega arith)) (omega arith)
 
+-- a row that was found is one of the first k
+clear-column-requires : tie.Need-clear-column-requires
+clear-column-requires c κs =
+    let start = c .before .before .before .before .before .before .before in
+    let a = start .args in
+    let x = both (now (a .rows)) (now (a .roles)) in
+    let found : c .before .before .pivot-row .result ≡ pivotFrom x (a .p) 0 (a .k) = c .before .before .pivot-row .ensures in (
+      omega (arith, found, pivot-below x (a .p) (a .k) (omega (arith, found))),
+      start .pre .0,
+      start .pre .1,
+      search needs,
+    )
+
 pub column-step-spec : {M : Type 1} → statement M
-column-step-spec = tie.close (tie.spec returns (λ c κs. search needs) returns-2 (λ c κs. search needs) (λ c. search needs) (λ c. search needs) returns-3)
+column-step-spec = tie.close (tie.spec returns (λ c κs. search needs) returns-2 clear-column-requires (λ c. search needs) (λ c. search needs) returns-3)

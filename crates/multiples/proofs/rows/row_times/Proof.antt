@@ -1,22 +1,56 @@
--- The multiple is added to a row of zeros.
+-- The loop fills the row from the front: α times the byte by the high half of c, and the byte by its low half.
 use borrow.Author.Needs.{needs}
-use mathlib.Core.Path.{ap, _∙_}
-use Prim.Native.Nat.{ℕ}
-use lib.ListN.{getD}
-use Rattle.galois.specs.Byte.{_⊕_, _⊗_}
-use Rattle.galois.specs.Table.{table}
-use Rattle.galois.proofs.ByIndex.{getD-table, table-equal}
-use Rattle.galois.proofs.Xor.{zero-plus}
+use mathlib.Core.Path.{_≡_, refl, ap, ap₂, _∙_}
+use native.Mathlib.Nat.{not-suc-le-zero}
+use native.Mathlib.Omega.{arith}
+use Prim.Native.Nat.{ℕ, _-_, _<_, _≤_, zero-le}
+use lib.ListN.{length, getD, length-set}
+use Rattle.galois.specs.Byte.{_⊕_, _⊗_, alpha}
+use Rattle.galois.proofs.ByIndex.{is-table, filled-more}
+use Rattle.multiples.proofs.Planes.{both-halves}
 use Rattle.multiples.proofs.rows.row_times.Statement.{statement}
 use Rattle.multiples.proofs.rows.row_times.Tie as tie
 
-returns : tie.Need-returns
-unfolding table
+abbrev Inv-loop : tie.InvT-loop
+Inv-loop c row out₀ j₀ out j = (j ≤ 16) × (length out ≡ 16) × ((i : ℕ) → i < j → getD out i 0 ≡ c ⊗ getD row i 0)
+
+abbrev μ-loop : tie.MeasureT-loop
+μ-loop c row out₀ j₀ out j = 16 - j
+
+loop-again : tie.Need-loop-again Inv-loop μ-loop
+unfolding _⊕_
+loop-again c =
+    let at-high = c .before .before in
+    let at-loop = at-high .before .before in
+    let at = at-loop .loop in
+    let a = at-loop .before .args in
+    let high = c .before .alpha-times .ensures ∙ ap (λ (y : ℕ). alpha ⊗ y) (at-high .by-bits .ensures) in (
+      omega arith,
+      simp length-set (at .inv .1),
+      filled-more (λ i. a .c ⊗ getD (a .t1) i 0) 0 (at .out) (at .j) _ (omega arith)
+          (ap₂ _⊕_ high (c .by-bits2 .ensures) ∙ both-halves (a .c) (getD (a .t1) (at .j) 0)) (at .inv .2),
+    )
+
+returns : tie.Need-returns Inv-loop μ-loop
 returns c =
-    let a = c .before .args in
-    c .row-plus .ensures
-    ∙ table-equal 16 (λ j. getD (table 16 (λ i. 0)) j 0 ⊕ a .c ⊗ getD (a .row) j 0) (λ j. a .c ⊗ getD (a .row) j 0)
-    (λ j h. ap (λ (x : ℕ). x ⊕ a .c ⊗ getD (a .row) j 0) (getD-table 16 (λ i. 0) j 0 h) ∙ zero-plus (a .c ⊗ getD (a .row) j 0))
+    let at = c .before .loop in
+    let a = c .before .before .args in
+    is-table 16 (λ j. a .c ⊗ getD (a .t1) j 0) 0 (at .out) (at .inv .1) (λ i h. at .inv .2 i (omega arith))
 
 pub row-times-spec : {M : Type 1} → statement M
-row-times-spec = tie.close (tie.spec (λ c κs. search needs) returns)
+row-times-spec =
+    tie.close
+    (tie.spec
+    Inv-loop
+    μ-loop
+    (λ c. (zero-le, refl, λ i h. absurd (not-suc-le-zero h)))
+    (λ c. omega arith)
+    (λ c κs. search needs)
+    (λ c κs. search needs)
+    (λ c. omega arith)
+    (λ c κs. search needs)
+    (λ c. omega arith)
+    (λ c. omega arith)
+    (λ c. omega arith)
+    loop-again
+    returns)

@@ -27,8 +27,8 @@ unfolding _⊕_
 loop-again c =
     let at-loop = c .before .before in
     let at = at-loop .loop in
-    let low = at-loop .before .by-nibble2 .result in
-    let high = at-loop .before .before .by-nibble .result in (
+    let low = at-loop .before .by-nibble .result in
+    let high = at-loop .before .before .by-upper .result in (
       omega arith,
       simp length-set (at .inv .1),
       filled-more (λ i. getD low i 0 ⊕ alpha ⊗ getD high i 0) 0 (at .out) (at .v) _ (omega arith)
@@ -39,8 +39,8 @@ returns : tie.Need-returns Inv-loop μ-loop
 unfolding weightedOf
 returns c =
     let at = c .before .loop in
-    let low = c .before .before .by-nibble2 in
-    let high = c .before .before .before .by-nibble in
+    let low = c .before .before .by-nibble in
+    let high = c .before .before .before .by-upper in
     let a = c .before .before .before .before .args in
     let coefficient : ℕ → ℕ = λ i. getD (getD (now (a .rows)) i []) (a .q) 0 in
     let byte : ℕ → ℕ → ℕ = λ v i. getD (vectorOf (now (a .pairs)) i) v 0 in

@@ -1,13 +1,14 @@
 -- The message is written after the header; then the loop writes one parity symbol of every lane a turn.
 use borrow.Author.Needs.{needs}
 use borrow.Rule.Slice.PartMut.{mid-len}
-use mathlib.Core.Path.{_≡_, refl, sym, ap, _∙_}
+use mathlib.Core.Path.{_≡_, sym, ap, _∙_}
 use mathlib.Core.List.{List, _++_}
 use native.Mathlib.Omega.{arith}
 use Prim.Native.Nat.{ℕ, _+_, _-_, _*_, _<_, _≤_}
 use denote.Ref.{now}
 use lib.ListN.{length, take}
-use Rattle.multiples.specs.Pairs.{Paired}
+use Rattle.multiples.specs.Pairs.{Wide, Paired}
+use Rattle.multiples.proofs.PairLaws.{blank-wide, blank-paired}
 use Rattle.code.specs.Settings.{kOf, nOf}
 use Rattle.code.proofs.Shape.{Shape, shape}
 use Rattle.protocol.specs.Frame.{bodyOf}
@@ -15,14 +16,14 @@ use Rattle.protocol.specs.Lengths.{frameLen}
 use Rattle.sender.specs.Gathering.{pairsOf}
 use Rattle.sender.proofs.Places.{body-few, message-fits, symbol-ends}
 use Rattle.sender.proofs.Bodies.{Written, written-message, written-more, written-all}
-use Rattle.sender.proofs.Gathered.{pairs-few, blank-paired}
+use Rattle.sender.proofs.Gathered.{pairs-few}
 use Rattle.sender.proofs.frame.write_body.Statement.{statement}
 use Rattle.sender.proofs.frame.write_body.Tie as tie
 
 abbrev Inv-loop : tie.InvT-loop
 Inv-loop frame₀ form rows message s due lanes pairs₀ p₀ frame pairs p =
     (kOf s ≤ p) × (p ≤ nOf s) × (length frame ≡ frameLen s) × Written s rows message due (take 14 frame₀) frame p
-    × (length pairs ≡ 32) × Paired (pairsOf s) pairs
+    × Wide pairs × Paired (pairsOf s) pairs
 
 abbrev μ-loop : tie.MeasureT-loop
 μ-loop frame₀ form rows message s due lanes pairs₀ p₀ frame pairs p = nOf s - p
@@ -63,7 +64,7 @@ loop-holds c =
       omega (arith, c .sources .ensures),
       from .write-at .kept .0 ∙ start from .pre .4,
       rw (c .sources .ensures) (message-sent from .1),
-      refl,
+      blank-wide,
       blank-paired (pairsOf (a .s)) (pairs-few (a .s) h),
     )
 

@@ -1,121 +1,125 @@
--- The loop puts one source symbol of every lane into its vector a turn; row is the one that holds source symbol i.
-use borrow.Author.Needs.{needs}
-use borrow.Rule.Slice.PartMut.{mid-len}
-use mathlib.Core.Path.{_≡_, refl, sym, ap, ap₂, _∙_}
-use mathlib.Core.Logic.{⊎-elim}
-use native.Mathlib.Nat.{mod-lt, sub-zero}
+-- The loop puts two source symbols of every lane into their pair a turn; row is the one that holds source symbol 2j.
+use mathlib.Core.Path.{_≡_, refl, ap, subst⁻¹, _∙_}
+use mathlib.Core.List.{List}
 use native.Mathlib.Omega.{arith}
 use Prim.Native.Nat.{ℕ, _+_, _-_, _*_, _%_, _≤_, _<_}
+use borrow.Author.Needs.{needs}
 use denote.Ref.{now}
-use lib.Arith.{lt-of-le-ne}
-use lib.ListN.{length}
+use Rattle.multiples.specs.Pairs.{Wide}
 use Rattle.code.specs.Settings.{kOf, nOf}
 use Rattle.code.proofs.Shape.{Shape, shape}
-use Rattle.sender.specs.Gathering.{gatheredOf}
-use Rattle.sender.proofs.Places.{rows-few, source-ends, row-after, row-wraps, slot-after}
-use Rattle.sender.proofs.Gathered.{gathered-more}
+use Rattle.sender.specs.Gathering.{pairsOf, rowOf, gatheredOf}
+use Rattle.sender.proofs.Places.{row-first, row-next, row-below}
+use Rattle.sender.proofs.Gathered.{pairs-few, gathered-more, gathered-wide}
 use Rattle.sender.proofs.parity.gather.Statement.{statement}
 use Rattle.sender.proofs.parity.gather.Tie as tie
 
 abbrev Inv-loop : tie.InvT-loop
-Inv-loop pairs₀ rows s due p lanes ring size row₀ i₀ pairs row i =
-    (i ≤ kOf s) × (row ≡ (due + (nOf s - 1) - (p - i)) % (nOf s - 1)) × (pairs ≡ gatheredOf s rows due p i pairs₀)
+Inv-loop pairs₀ rows s due p ring row₀ j₀ pairs row j =
+    (j ≤ pairsOf s) × (row ≡ rowOf s due p (j * 2)) × (pairs ≡ gatheredOf s rows due p j pairs₀)
 
 abbrev μ-loop : tie.MeasureT-loop
-μ-loop pairs₀ rows s due p lanes ring size row₀ i₀ pairs row i = kOf s - i
+μ-loop pairs₀ rows s due p ring row₀ j₀ pairs row j = pairsOf s - j
 
-abbrev start : tie.After-message-len Inv-loop μ-loop → tie.Start Inv-loop μ-loop
-start c = c .before .before .before .before
+abbrev start : tie.After-symbols Inv-loop μ-loop → tie.Start Inv-loop μ-loop
+start c = c .before .before
 
-shaped : (c : tie.After-message-len Inv-loop μ-loop) → Shape (start c .args .s)
+shaped : (c : tie.After-symbols Inv-loop μ-loop) → Shape (start c .args .s)
 shaped c = shape (start c .args .s) (start c .pre .0)
 
+-- the ring has rows
+some-rows : (c : tie.After-symbols Inv-loop μ-loop) → (0 < nOf (start c .args .s) - 1) × (start c .args .p ≤ nOf (start c .args .s) - 1)
+some-rows c = let h = shaped c in (omega arith, omega (arith, start c .pre .3))
+
+-- there are few pairs
+few : (c : tie.At-loop Inv-loop μ-loop) → c .loop .j ≤ 8
+few c = omega (arith, c .loop .inv .0, pairs-few (start (c .before) .args .s) (shaped (c .before)))
+
 module _ (c : tie.Then1 Inv-loop μ-loop) where
-  abbrev entered : tie.After-message-len Inv-loop μ-loop
-  entered = c .before .before .before
+  abbrev at-loop : tie.At-loop Inv-loop μ-loop
+  at-loop = c .before .before
 
-  -- where source symbol i begins in the rows
-  abbrev place : ℕ
-  place = c .before .before .loop .row * entered .message-len .result + c .before .before .loop .i * start entered .args .s .lanes
+  abbrev entered : tie.After-symbols Inv-loop μ-loop
+  entered = at-loop .before
 
-  -- it lies within them
-  within : let at = c .before .before .loop in
+  -- source symbol 2j is one of k, so that pair j is one of the pairs
+  source : let s = start entered .args .s in
+      (at-loop .loop .j * 2 < kOf s) × (at-loop .loop .j + 1 ≤ pairsOf s)
+  unfolding pairsOf
+  source = (omega (arith, c .before .sources .ensures), omega (arith, c .before .sources .ensures))
+
+  -- the row is one of the ring
+  row-within : at-loop .loop .row < nOf (start entered .args .s) - 1
+  row-within =
       let a = start entered .args in
-      (at .i < kOf (a .s)) × (at .row < nOf (a .s) - 1)
-      × (place + a .s .lanes ≤ length (now (a .rows))) × (length (now (a .rows)) ≤ 15360)
-  within =
-      let at = c .before .before .loop in
+      omega (arith, at-loop .loop .inv .1, row-below (a .s) (a .due) (a .p) (at-loop .loop .j * 2) (some-rows entered .0))
+
+  -- the table so far has as many vectors and lanes
+  wide : Wide (at-loop .loop .pairs)
+  wide =
       let a = start entered .args in
-      let h = shaped entered in
-      let source : at .i < kOf (a .s) = omega (arith, c .before .sources .ensures) in
-      let some : 0 < nOf (a .s) - 1 = omega arith in
-      let below : at .row < nOf (a .s) - 1 = omega (arith, at .inv .1, mod-lt (a .due + (nOf (a .s) - 1) - (a .p - at .i)) some) in (
-        source,
-        below,
-        omega (
-          arith,
-          ap (λ (m : ℕ). at .row * m) (entered .message-len .ensures),
-          source-ends (a .s) h (at .row) (at .i) below source,
-          start entered .pre .1,
-        ),
-        omega (arith, start entered .pre .1, rows-few (a .s) h),
-      )
+      subst⁻¹ Wide (at-loop .loop .inv .2)
+      (gathered-wide (a .s) (now (a .rows)) (a .due) (a .p) (now (a .pairs)) (shaped entered) (start entered .pre .4) (at-loop .loop .j) (few at-loop))
 
 loop-holds : tie.Need-loop-holds Inv-loop μ-loop
 unfolding gatheredOf
 loop-holds c =
     let a = start c .args in (
       omega arith,
-      ap₂ (λ (n q : ℕ). (a .due + (n - 1) - q) % (n - 1)) (c .before .symbols .ensures) (sym (sub-zero (a .p))),
+      ap (λ (n : ℕ). (a .due + (n - 1) - a .p) % (n - 1)) (c .symbols .ensures) ∙ row-first (a .s) (a .due) (a .p),
       refl,
     )
 
-put-requires : tie.Need-put-requires Inv-loop μ-loop
-put-requires c κs =
-    let taken = c .before .before in
-    let a = start (entered taken) .args in
-    let h = shaped (entered taken) in (
-      omega (arith, within taken),
-      omega (arith, mid-len (place taken) (place taken + a .s .lanes) (now (a .rows)) (within taken .2)),
-    )
+-- the row after, of source symbol 2j + 1
+module _ (c : tie.After-next-row Inv-loop μ-loop) where
+  abbrev taken : tie.Then1 Inv-loop μ-loop
+  taken = c .before
 
--- the row of the next source symbol
-next-row : (c : tie.Joined2 Inv-loop μ-loop) → let taken = c .before .before .before .before in
-    let a = start (entered taken) .args in
-    c .if2 .row ≡ (a .due + (nOf (a .s) - 1) - (a .p - (taken .before .before .loop .i + 1))) % (nOf (a .s) - 1)
-next-row c =
-    let taken = c .before .before .before .before in
-    let at = taken .before .before .loop in
-    let a = start (entered taken) .args in
-    let h = shaped (entered taken) in
-    let R : ℕ = nOf (a .s) - 1 in
-    let x : ℕ = a .due + R - (a .p - at .i) in
-    let ring : entered taken .before .symbols .result - 1 ≡ R = ap (λ (n : ℕ). n - 1) (entered taken .before .symbols .ensures) in
-    let below : at .row + 1 ≤ R = omega (arith, within taken) in
-    ⊎-elim (λ w. w .1 ∙ row-wraps R x (at .row) (at .inv .1) (w .0 .taken ∙ ring))
-    (λ w. w .1 ∙ row-after R x (at .row) (at .inv .1) (lt-of-le-ne below (λ same. w .0 .left (same ∙ sym ring))))
-    (c .if2 .came)
-    ∙ ap (λ (y : ℕ). y % R) (slot-after (a .due) R (a .p) (at .i) (omega (arith, within taken)) (omega arith))
+  is-next : let a = start (entered taken) .args in
+      c .next-row .result ≡ rowOf (a .s) (a .due) (a .p) (at-loop taken .loop .j * 2 + 1)
+  is-next =
+      let a = start (entered taken) .args in
+      let at = at-loop taken .loop in
+      c .next-row .ensures
+      ∙ ap (λ (n : ℕ). (at .row + 1) % (n - 1)) (entered taken .symbols .ensures)
+      ∙ row-next (a .s) (a .due) (a .p) (at .j * 2) (at .row) (at .inv .1)
+
+  next-within : c .next-row .result < nOf (start (entered taken) .args .s) - 1
+  next-within =
+      let a = start (entered taken) .args in
+      omega (arith, is-next, row-below (a .s) (a .due) (a .p) (at-loop taken .loop .j * 2 + 1) (some-rows (entered taken) .0))
+
+put-pair-requires : tie.Need-put-pair-requires Inv-loop μ-loop
+put-pair-requires c κs =
+    let at = taken (c .before) in
+    let pre = start (entered at) .pre in
+    (pre .0, pre .1, row-within at, next-within (c .before), source at .0, wide at)
 
 loop-again : tie.Need-loop-again Inv-loop μ-loop
 loop-again c =
-    let called = c .before in
-    let taken = called .before .before .before in
-    let at = taken .before .before .loop in
-    let a = start (entered taken) .args in (
-      omega (arith, within taken),
-      next-row c,
-      called .put .ensures
-          ∙ gathered-more (a .s) (now (a .rows)) (a .due) (a .p) (now (a .pairs)) (at .i) (at .row) (entered taken .message-len .result)
-          (at .pairs) (at .inv .1) (entered taken .message-len .ensures) (within taken .2) (at .inv .2),
+    let put = c .before in
+    let next = put .before .before in
+    let from = taken next in
+    let at = at-loop from .loop in
+    let a = start (entered from) .args in
+    let turned : at .j * 2 + 1 + 1 ≡ (at .j + 1) * 2 = omega arith in (
+      source from .1,
+      c .next-row2 .ensures
+          ∙ ap (λ (n : ℕ). (next .next-row .result + 1) % (n - 1)) (entered from .symbols .ensures)
+          ∙ row-next (a .s) (a .due) (a .p) (at .j * 2 + 1) (next .next-row .result) (is-next next)
+          ∙ ap (rowOf (a .s) (a .due) (a .p)) turned,
+      put .put-pair .ensures
+          ∙ gathered-more (a .s) (now (a .rows)) (a .due) (a .p) (now (a .pairs)) (at .j) (at .row) (next .next-row .result) (at .pairs) (at .inv .1)
+          (is-next next) (at .inv .2),
     )
 
 returns : tie.Need-returns Inv-loop μ-loop
+unfolding pairsOf
 returns c =
-    let at-loop = c .before .before in
-    let a = start (at-loop .before) .args in
-    let all : at-loop .loop .i ≡ kOf (a .s) = omega (arith, c .before .sources .ensures) in
-    at-loop .loop .inv .2 ∙ ap (λ (m : ℕ). gatheredOf (a .s) (now (a .rows)) (a .due) (a .p) m (now (a .pairs))) all
+    let at = c .before .before in
+    let a = start (at .before) .args in
+    let all : at .loop .j ≡ pairsOf (a .s) = omega (arith, c .before .sources .ensures) in
+    at .loop .inv .2 ∙ ap (λ (m : ℕ). gatheredOf (a .s) (now (a .rows)) (a .due) (a .p) m (now (a .pairs))) all
 
 pub gather-spec : {M : Type 1} → statement M
 gather-spec =
@@ -123,25 +127,18 @@ gather-spec =
     (tie.spec
     Inv-loop
     μ-loop
-    (λ c. search needs)
     (λ c κs. tt)
-    (λ c. let h = shape _ (c .before .before .before .pre .0) in omega (arith, c .symbols .ensures))
-    (λ c κs. tt)
-    (λ c. let h = shaped c in omega (arith, c .before .symbols .ensures))
-    (λ c. omega (arith, c .before .symbols .ensures))
-    (λ c. let h = shaped c in omega (arith, c .before .symbols .ensures))
+    (λ c. let h = shaped c in omega (arith, c .symbols .ensures))
+    (λ c. let h = shaped c in omega (arith, c .symbols .ensures))
+    (λ c. omega (arith, c .symbols .ensures, some-rows c))
+    (λ c. omega (arith, c .symbols .ensures, some-rows c))
     loop-holds
+    (λ c. omega (arith, few c))
     (λ c κs. tt)
-    (λ c. omega (arith, within c))
-    (λ c. omega (arith, within c))
-    (λ c. omega (arith, within c))
-    (λ c. let h = shaped (entered (c .before)) in omega (arith, within (c .before)))
-    (λ c. let h = shaped (entered (c .before)) in omega (arith, within (c .before)))
-    (λ c. let h = shaped (entered (c .before)) in omega arith)
-    (λ c. omega (arith, within (c .before)))
-    put-requires
-    (λ c. let taken = c .before .before .before in let h = shaped (entered taken) in omega (arith, within taken))
-    (λ c. let taken = c .before .before .before .before in let h = shaped (entered taken) in omega (arith, within taken))
-    (λ c. omega (arith, within (c .before .before .before .before)))
+    (λ c κs. omega (arith, row-within c, entered c .symbols .ensures))
+    put-pair-requires
+    (λ c κs. let next = c .before .before in omega (arith, next-within next, entered (taken next) .symbols .ensures))
+    (λ c. omega (arith, few (at-loop (taken (c .before .before .before)))))
+    (λ c. omega (arith, source (taken (c .before .before .before))))
     loop-again
     returns)

@@ -1,4 +1,4 @@
--- The source symbols are gathered and joined to pairs; their sum by column p of the systematic form is the parity symbol of each lane.
+-- The source symbols are gathered in pairs; their sum by column p of the systematic form is the parity symbol of each lane.
 use borrow.Author.Needs.{needs}
 use mathlib.Core.Path.{_≡_, sym, ap, ap₂, _∙_, subst⁻¹}
 use mathlib.Core.List.{List, _++_, append-nil}
@@ -9,13 +9,10 @@ use denote.Ref.{now}
 use lib.ListN.{length, take, drop}
 use lib.Seq.{length-take-le, drop-length}
 use Rattle.galois.proofs.Cases.{is-true}
-use Rattle.multiples.specs.Pairs.{joinedOf, Paired, weightedOf}
-use Rattle.multiples.proofs.PairLaws.{join-length}
-use Rattle.code.specs.Settings.{kOf}
+use Rattle.multiples.specs.Pairs.{Wide, Paired, weightedOf}
 use Rattle.code.proofs.Shape.{Shape, shape}
-use Rattle.protocol.specs.Frame.{remembered}
 use Rattle.sender.specs.Gathering.{pairsOf, gatheredOf}
-use Rattle.sender.proofs.Gathered.{pairs-few, length-gathered, gathered-paired, parity-symbols}
+use Rattle.sender.proofs.Gathered.{pairs-few, gathered-wide, gathered-paired, parity-symbols}
 use Rattle.sender.proofs.parity.write_parity.Statement.{statement}
 use Rattle.sender.proofs.parity.write_parity.Tie as tie
 
@@ -33,33 +30,28 @@ is-count c = ap (λ (k : ℕ). (k + 1) / 2) (c .sources .ensures)
 count-few : (c : tie.After-sources) → pairsOf (start c .args .s) ≤ 8
 count-few c = pairs-few (start c .args .s) (shaped c)
 
-module _ (c : tie.After-join) where
+module _ (c : tie.After-gather) where
   abbrev counted : tie.After-sources
-  counted = c .before .before .before .before
+  counted = c .before .before
 
   -- the table with the source symbols
   abbrev gathered : List (List ℕ)
-  gathered = let a = start counted .args in gatheredOf (a .s) (now (a .rows)) (a .due) (a .p) (kOf (a .s)) (now (a .pairs))
+  gathered = let a = start counted .args in gatheredOf (a .s) (now (a .rows)) (a .due) (a .p) (pairsOf (a .s)) (now (a .pairs))
 
-  -- and with the sums of its pairs
-  joined : c .join .last .0 ≡ joinedOf (pairsOf (start counted .args .s)) gathered
-  joined = c .join .ensures ∙ ap₂ joinedOf (is-count counted) (c .before .before .gather .ensures)
+  -- it has as many vectors and lanes
+  wide : Wide (c .gather .last .0)
+  wide =
+      let a = start counted .args in
+      subst⁻¹ Wide (c .gather .ensures)
+      (gathered-wide (a .s) (now (a .rows)) (a .due) (a .p) (now (a .pairs)) (shaped counted) (start counted .pre .6) (pairsOf (a .s)) (count-few counted))
 
-  -- it is a table of pairs
-  paired : Paired (pairsOf (start counted .args .s)) (c .join .last .0)
+  -- and is a table of pairs
+  paired : Paired (pairsOf (start counted .args .s)) (c .gather .last .0)
   paired =
       let a = start counted .args in
-      subst⁻¹ (λ (l : List (List ℕ)). Paired (pairsOf (a .s)) l) joined
-      (gathered-paired (a .s) (now (a .rows)) (a .due) (a .p) (now (a .pairs)) (kOf (a .s)) (pairsOf (a .s)) (count-few counted)
-      (start counted .pre .7))
-
-join-requires : tie.Need-join-requires
-join-requires c κs =
-    let at = c .before .before .before in
-    let a = start at .args in (
-      omega (arith, is-count at, count-few at),
-      ap length (c .before .gather .ensures) ∙ length-gathered (a .s) (now (a .rows)) (a .due) (a .p) (now (a .pairs)) (kOf (a .s)) ∙ start at .pre .6,
-    )
+      subst⁻¹ (λ (l : List (List ℕ)). Paired (pairsOf (a .s)) l) (c .gather .ensures)
+      (gathered-paired (a .s) (now (a .rows)) (a .due) (a .p) (now (a .pairs)) (shaped counted) (start counted .pre .6) (pairsOf (a .s)) (pairsOf (a .s))
+      (count-few counted) (start counted .pre .7))
 
 weighted-requires : tie.Need-weighted-requires
 weighted-requires c κs =
@@ -67,12 +59,12 @@ weighted-requires c κs =
     let h = shaped at in (
       omega arith,
       omega (arith, is-count at, count-few at),
-      subst⁻¹ (λ (m : ℕ). Paired m (c .before .join .last .0)) (is-count at) (paired (c .before)),
+      subst⁻¹ (λ (m : ℕ). Paired m (c .before .gather .last .0)) (is-count at) (paired (c .before)),
     )
 
 -- the sums of 64 lanes, of which the first are written
 module _ (c : tie.After-weighted) where
-  abbrev summed : tie.After-join
+  abbrev summed : tie.After-gather
   summed = c .before .before
 
   abbrev lanes : ℕ
@@ -93,12 +85,11 @@ overwritten out bytes same =
     ap (λ (m : ℕ). bytes ++ drop m out) (zero-add (length bytes) ∙ same) ∙ ap (λ (l : List ℕ). bytes ++ l) (drop-length out) ∙ append-nil bytes
 
 returns : tie.Need-returns
-unfolding remembered
 returns c =
     let sent = c .before .before in
     let at = sent .before .before .before in
-    let at-join = summed at in
-    let from = counted at-join in
+    let at-gather = summed at in
+    let from = counted at-gather in
     let a = start from .args in
     let pre = start from .pre in
     let h = shaped from in (
@@ -106,12 +97,12 @@ returns c =
           ∙ overwritten (now (a .out)) (take (a .s .lanes) (at .weighted .result)) (lanes-long at ∙ sym (pre .3))
           ∙ ap (take (a .s .lanes))
           (at .weighted .ensures
-          ∙ ap₂ (λ (l : List (List ℕ)) (m : ℕ). weightedOf (now (a .form)) (a .p) l m) (joined at-join) (is-count from)
-          ∙ ap (λ (form : List (List ℕ)). weightedOf form (a .p) (joinedOf (pairsOf (a .s)) (gathered at-join)) (pairsOf (a .s))) (pre .1))
-          ∙ parity-symbols (a .s) (now (a .rows)) (a .due) (a .p) (now (a .pairs)) h (is-true _ (pre .0)) (omega arith) (pre .6)
-          (λ b i v. from .before .before .shared-slice-known .given _ .fits),
-      ap length (joined at-join) ∙ join-length (gathered at-join) (pairsOf (a .s)),
-      paired at-join,
+          ∙ ap₂ (λ (l : List (List ℕ)) (m : ℕ). weightedOf (now (a .form)) (a .p) l m) (at-gather .gather .ensures) (is-count from)
+          ∙ ap (λ (form : List (List ℕ)). weightedOf form (a .p) (gathered at-gather) (pairsOf (a .s))) (pre .1))
+          ∙ parity-symbols (a .s) (now (a .rows)) (a .due) (a .p) (now (a .pairs)) h (pre .6)
+          (λ q. from .before .before .shared-slice-known .given q .fits) (pre .4) (pre .5) (is-true _ (pre .0)),
+      wide at-gather,
+      paired at-gather,
     )
 
 pub write-parity-spec : {M : Type 1} → statement M
@@ -121,8 +112,7 @@ write-parity-spec =
     (λ c. search needs)
     (λ c κs. tt)
     (λ c. let h = shaped c in omega (arith, c .sources .ensures))
-    (λ c κs. let pre = c .before .before .before .before .before .pre in (pre .0, pre .2, pre .4, pre .5))
-    join-requires
+    (λ c κs. let pre = c .before .before .before .before .before .pre in (pre .0, pre .2, pre .4, pre .5, pre .6))
     weighted-requires
     (λ c. lanes-few (c .before))
     (λ c. sym (lanes-long (c .before .before)))
