@@ -50,6 +50,7 @@ module _ (s : Settings) (places bytes : List ℕ) (p : ℕ) where
       ⊎-elim (λ past. omega (arith, place-past s p places past, held .inside 0 (omega arith)))
       (λ below. omega (arith, place-inside s p places below, held .inside p below)) (le-or-lt (nOf s) p)
 
+  -- as many as there are lanes
   pub held-length : length (heldAt s places bytes p) ≡ s .lanes
   held-length = length-table (s .lanes) (λ v. getD bytes (placeOf s places p + v) 0)
 
@@ -91,12 +92,14 @@ putPair s roles places bytes j pairs =
     (heldAt s places bytes (roleOf s roles (j * 2 + 1))) (keptOf s (roleOf s roles (j * 2 + 1)))
 
 module _ (s : Settings) (roles places bytes : List ℕ) (h : Shape s) (pairs : List (List ℕ)) (j : ℕ) (few : j < 8) (clear : Clear pairs) where
+  -- the positions of the two rows' pivots
   abbrev a : ℕ
   a = roleOf s roles (j * 2)
 
   abbrev b : ℕ
   b = roleOf s roles (j * 2 + 1)
 
+  -- the L bytes there
   abbrev first : List ℕ
   first = heldAt s places bytes a
 

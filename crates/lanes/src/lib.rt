@@ -16,8 +16,8 @@ ghost use Rattle.code.specs.Settings.{kOf};
 ghost use Rattle.lanes.specs.Lanes.{Held, Clear, Own, lanesSaid};
 
 // What elimination says of position i: 2 if some lane clashes at a position whose flag is 1, else 1 if the symbol is lost, else 0, and
-// `out` gets the shared bytes. Of the codewords, received or not, `bytes` has symbol p of lane v at place p plus v. In `pairs` only the
-// zeros matter, and they stay.
+// `out` gets the shared bytes. Of the codewords, received or not, `bytes` has symbol p of lane v at place p plus v. In `pairs` only
+// the zeros and the sums matter, and they stay in their places.
 pub fn answer(
     s: Settings,
     rows: &[[u8; 16]; 16],

@@ -3,13 +3,12 @@ use mathlib.Core.Path.{_≡_, refl, sym, ap, ap₂, _∙_, subst}
 use mathlib.Core.Bool.{Bool, true, cond}
 use mathlib.Core.List.{List, []}
 use mathlib.Core.Logic.{⊎-elim}
-use Prim.Native.Nat.{ℕ, zero, suc, _+_, _-_, _*_, _/_, _%_, _≤_, _<_}
-use native.Mathlib.Nat.{not-suc-le-zero, eq-or-lt-of-le, ne-of-lt}
+use Prim.Native.Nat.{ℕ, zero, suc, _+_, _-_, _*_, _%_, _≤_, _<_}
+use native.Mathlib.Nat.{not-suc-le-zero, eq-or-lt-of-le}
 use native.Mathlib.Numerals.{add-one}
 use native.Mathlib.Omega.{arith}
 use borrow.Author.Tests.{lt-ltb, le-ltb}
 use borrow.Rule.Slice.PartMut.{midOf, mid-len}
-use lib.Dec.{ltb}
 use lib.ListN.{length, getD, take, drop}
 use lib.Seq.{getD-take, getD-drop, length-take-le}
 use Rattle.galois.specs.Byte.{_⊗_}
@@ -78,29 +77,30 @@ module _ (s : Settings) (rows : List ℕ) where
         sym (ap (λ (t : Bool). cond t (pairedUp pairs j even 255 odd 255) (pairedUp pairs j even 255 even 0)) (le-ltb (j * 2 + 1) (kOf s) h))
 
     module _ (lanes-few : s .lanes ≤ 64) (wide : Wide pairs) (few : j < 8) where
+      -- the bytes are no more than the lanes of a vector
       abbrev short : length even ≤ 64
       short = omega (arith, source-length row (j * 2))
 
-      -- whether or not there is a second, what both forms have the new table has
-      pub put-either : (P : List (List ℕ) → Type 0) → P (pairedUp pairs j even 255 odd 255) → P (pairedUp pairs j even 255 even 0)
+      -- what holds with a second source symbol and without one, holds
+      put-either : (P : List (List ℕ) → Type 0) → P (pairedUp pairs j even 255 odd 255) → P (pairedUp pairs j even 255 even 0)
           → P (pairPut s rows row next j pairs)
       put-either P both last =
           ⊎-elim (λ h. subst P (put-last h) last) (λ h. subst P (put-both h) both) (le-or-lt (kOf s) (j * 2 + 1))
 
       -- the table has as many vectors and lanes
-      pub put-wide : Wide (pairPut s rows row next j pairs)
+      put-wide : Wide (pairPut s rows row next j pairs)
       put-wide =
           put-either Wide (paired-wide pairs j even 255 odd 255 wide few short)
           (paired-wide pairs j even 255 even 0 wide few short)
 
       -- and is a table of pairs again
-      pub put-paired : (count : ℕ) → Paired count pairs → Paired count (pairPut s rows row next j pairs)
+      put-paired : (count : ℕ) → Paired count pairs → Paired count (pairPut s rows row next j pairs)
       put-paired count paired =
           put-either (Paired count) (paired-kept pairs j even 255 odd 255 wide few short count paired)
           (paired-kept pairs j even 255 even 0 wide few short count paired)
 
       -- a vector of another pair is as it was
-      pub put-other : (i : ℕ) → i < j * 2 → vectorOf (pairPut s rows row next j pairs) i ≡ vectorOf pairs i
+      put-other : (i : ℕ) → i < j * 2 → vectorOf (pairPut s rows row next j pairs) i ≡ vectorOf pairs i
       put-other i hi =
           put-either (λ l. vectorOf l i ≡ vectorOf pairs i)
           (paired-other pairs j even 255 odd 255 wide few short i (λ is. omega arith))
@@ -108,7 +108,7 @@ module _ (s : Settings) (rows : List ℕ) where
 
       module _ (bytes : (q : ℕ) → getD rows q 0 < 256) (v : ℕ) (hv : v < s .lanes) where
         -- the two vectors of pair j hold the two source symbols
-        pub put-even : getD (vectorOf (pairPut s rows row next j pairs) (j * 2)) v 0 ≡ getD rows (row * messageLen s + (j * 2 * s .lanes + v)) 0
+        put-even : getD (vectorOf (pairPut s rows row next j pairs) (j * 2)) v 0 ≡ getD rows (row * messageLen s + (j * 2 * s .lanes + v)) 0
         put-even =
             let byte = source-byte row (j * 2) v hv in
             let small : getD even v 0 < 256 = omega (arith, byte, bytes (row * messageLen s + (j * 2 * s .lanes + v))) in
@@ -118,7 +118,7 @@ module _ (s : Settings) (rows : List ℕ) where
             (paired-first pairs j even 255 even 0 wide few short v lane small refl)
             ∙ byte
 
-        pub put-odd : j * 2 + 1 < kOf s
+        put-odd : j * 2 + 1 < kOf s
             → getD (vectorOf (pairPut s rows row next j pairs) (j * 2 + 1)) v 0 ≡ getD rows (next * messageLen s + ((j * 2 + 1) * s .lanes + v)) 0
         put-odd source =
             let byte = source-byte next (j * 2 + 1) v hv in

@@ -14,6 +14,7 @@ use Rattle.lanes.proofs.sums.put_pair.Tie as tie
 
 -- once both places are known
 module _ (c : tie.After-place-of2) where
+  -- the entry, and what it was given
   abbrev start : tie.Start
   start = c .before .before .before .before .before .before
 
@@ -50,6 +51,7 @@ module _ (c : tie.After-place-of2) where
   second-ends : c .place-of2 .result + lanes ≤ length bytes
   second-ends = omega (arith, at-second, place-held (start .args .s) places bytes b shaped (start .pre .0))
 
+  -- and are a part of the bytes, as long as there are lanes
   first-part : take (c .before .place-of .result + lanes - c .before .place-of .result) (drop (c .before .place-of .result) bytes) ≡ heldAt (start .args .s) places bytes a
   first-part = held-part (start .args .s) places bytes a (c .before .place-of .result) at-first first-ends
 

@@ -1,9 +1,7 @@
 -- The loop puts two source symbols of every lane into their pair a turn; row is the one that holds source symbol 2j.
 use mathlib.Core.Path.{_≡_, refl, ap, subst⁻¹, _∙_}
-use mathlib.Core.List.{List}
 use native.Mathlib.Omega.{arith}
 use Prim.Native.Nat.{ℕ, _+_, _-_, _*_, _%_, _≤_, _<_}
-use borrow.Author.Needs.{needs}
 use denote.Ref.{now}
 use Rattle.multiples.specs.Pairs.{Wide}
 use Rattle.code.specs.Settings.{kOf, nOf}
