@@ -15,33 +15,6 @@ use Rattle.code.specs.Matrix.{spread, alphaEntry, entry}
 use Rattle.code.proofs.Shape.{Shape}
 use Rattle.code.proofs.Rows.{spread-zero-low, spread-zero-high, spread-one}
 
--- ---- a byte
-
--- a choice between bytes is a byte
-choice-below : (t : Bool) (x y : ℕ) → x < 256 → y < 256 → cond t x y < 256
-choice-below true x y hx hy = hx
-choice-below false x y hx hy = hy
-
--- a choice between 0 and 0 is 0
-choice-zero : (t : Bool) → cond {A = ℕ} t 0 0 ≡ 0
-choice-zero true = refl
-choice-zero false = refl
-
--- α is a byte
-alpha-below : alpha < 256
-unfolding alpha
-alpha-below = lit< tt
-
--- an entry is a byte
-pub entry-below : (s : Settings) (i j : ℕ) → entry s i j < 256
-unfolding entry alphaEntry
-entry-below s i j =
-    choice-below (ltb i (kOf s) && ltb j (nOf s)) _ 0
-    (choice-below (ltb i (dOf s) && leb (delayOf s) j) (alphaEntry (delayOf s) i j) (widen (spread s i j))
-    (choice-below (eqb j (delayOf s + i)) alpha 0 alpha-below (lit< tt))
-    (le-trans (widen-below (spread s i j)) (lit≤ tt)))
-    (lit< tt)
-
 -- ---- outside k rows by n positions
 
 -- 0 past the last row
@@ -68,6 +41,11 @@ unfolding entry
 entry-spread-row s i j hi hj h = rw (lt-ltb i (kOf s) hi, lt-ltb j (nOf s) hj, le-ltb i (dOf s) h)
 
 -- ---- the rows below d, from position T on
+
+-- a choice between 0 and 0 is 0
+choice-zero : (t : Bool) → cond {A = ℕ} t 0 0 ≡ 0
+choice-zero true = refl
+choice-zero false = refl
 
 module _ (s : Settings) (h : Shape s) where
   -- α at position T + i
@@ -112,3 +90,25 @@ module _ (s : Settings) (h : Shape s) where
   pub entry-one : (i : ℕ) → i < kOf s → entry s i i ≡ 1
   entry-one i hi =
       entry-spread-before s i i hi (omega arith) (omega arith) ∙ ap widen (spread-one s h i hi) ∙ widen-narrow 1 (lit< tt)
+
+-- ---- bytes
+
+-- a choice between bytes is a byte
+choice-below : (t : Bool) (x y : ℕ) → x < 256 → y < 256 → cond t x y < 256
+choice-below true x y hx hy = hx
+choice-below false x y hx hy = hy
+
+-- α is a byte
+alpha-below : alpha < 256
+unfolding alpha
+alpha-below = lit< tt
+
+-- an entry is a byte
+pub entry-below : (s : Settings) (i j : ℕ) → entry s i j < 256
+unfolding entry alphaEntry
+entry-below s i j =
+    choice-below (ltb i (kOf s) && ltb j (nOf s)) _ 0
+    (choice-below (ltb i (dOf s) && leb (delayOf s) j) (alphaEntry (delayOf s) i j) (widen (spread s i j))
+    (choice-below (eqb j (delayOf s + i)) alpha 0 alpha-below (lit< tt))
+    (le-trans (widen-below (spread s i j)) (lit≤ tt)))
+    (lit< tt)

@@ -2,10 +2,8 @@
 pub mod Shape
 pub mod Products
 pub mod Rows
-pub mod Spans
 pub mod Entries
 pub mod Words
 pub mod Symbols
-pub mod BackSubstitution
-pub mod Multiples
+pub mod Systematic
 pub mod Fits

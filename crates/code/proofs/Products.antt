@@ -1,11 +1,10 @@
 -- The product over zero points: one step, and its values.
-use mathlib.Core.Path.{_≡_, refl, sym, ap, _∙_}
-use mathlib.Core.Bool.{cond}
+use mathlib.Core.Path.{_≡_, sym, ap}
 use Prim.Native.Nat.{ℕ, zero, suc, _+_, _-_, _≤_, _<_}
 use native.Mathlib.Nat.{not-suc-le-zero}
 use native.Mathlib.Numerals.{sub-one}
 use borrow.Author.Tests.{lt-ltb, le-ltb}
-use Rattle.galois.specs.Narrow.{_⊞_, _⊠_}
+use Rattle.galois.specs.Narrow.{_⊠_}
 use Rattle.code.specs.Matrix.{point, factor, product}
 
 -- the product over m points is the product over one point fewer, times the factor of the last

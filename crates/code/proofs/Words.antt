@@ -1,20 +1,50 @@
--- Words: they add and scale, their first k positions are triangular in the multipliers, and so determine them.
-use mathlib.Core.Path.{_≡_, sym, ap, _∙_}
-use mathlib.Core.Logic.{⊎-elim}
+-- Words: G's rows are the units' words, words add and scale, and their first k positions are triangular in the multipliers, and so
+-- determine them.
+use mathlib.Core.Path.{_≡_, refl, sym, ap, ap₂, _∙_}
+use mathlib.Core.Bool.{Bool, true, false, cond}
+use mathlib.Core.Logic.{_≢_, ⊎-elim}
 use Prim.Native.Nat.{ℕ, zero, suc, _+_, _-_, _≤_, _<_}
 use native.Mathlib.Nat.{eq-or-lt-of-le, le-of-suc-le-suc, le-of-lt, le-step, lt-suc-self, not-suc-le-zero}
 use native.Mathlib.Omega.{arith}
+use lib.Dec.{eqb, lit<}
+use borrow.Author.Tests.{eq-eqb, ne-eqb}
 use Rattle.galois.specs.Byte.{_⊕_, _⊗_}
 use Rattle.galois.specs.Sum.{sum}
 use Rattle.galois.proofs.Xor.{plus-below, plus-zero, zero-plus, plus-self, plus-cancel}
 use Rattle.galois.proofs.ByteProduct.{times-below, times-comm, times-assoc, times-zero, zero-times, one-times, distributes-left}
-use Rattle.galois.proofs.Sums.{sum-equal, sum-zeros, sum-below, sum-plus, sum-split, multiple-of-sum}
+use Rattle.galois.proofs.Sums.{sum-equal, sum-zeros, sum-single, sum-below, sum-plus, sum-split, multiple-of-sum}
 use Rattle.code.specs.declared.settings.Settings.{Settings}
 use Rattle.code.specs.Settings.{kOf}
 use Rattle.code.specs.Matrix.{entry}
-use Rattle.code.specs.Word.{wordAt}
+use Rattle.code.specs.Word.{wordAt, unit}
 use Rattle.code.proofs.Shape.{Shape}
-use Rattle.code.proofs.Entries.{entry-zero-low, entry-one}
+use Rattle.code.proofs.Entries.{entry-below, entry-zero-low, entry-one}
+
+-- ---- units, and their words
+
+pub unit-self : (i : ℕ) → unit i i ≡ 1
+unfolding unit
+unit-self i = rw (eq-eqb i i refl)
+
+pub unit-other : (i m : ℕ) → m ≢ i → unit i m ≡ 0
+unfolding unit
+unit-other i m ne = rw (ne-eqb m i ne)
+
+pub unit-below : (i m : ℕ) → unit i m < 256
+unfolding unit
+unit-below i m = go (eqb m i)
+  where
+    go : (b : Bool) → cond b 1 0 < 256
+    go true = lit< tt
+    go false = lit< tt
+
+-- row i of G is the word of the i-th unit
+pub word-of-unit : (s : Settings) (i : ℕ) → i < kOf s → (p : ℕ) → wordAt s (unit i) p ≡ entry s i p
+unfolding wordAt
+word-of-unit s i hi p =
+    sum-single (kOf s) i (λ r. unit i r ⊗ entry s r p) hi
+    (λ r hr ne. ap (λ (x : ℕ). x ⊗ entry s r p) (unit-other i r ne) ∙ zero-times (entry s r p))
+    ∙ ap (λ (x : ℕ). x ⊗ entry s i p) (unit-self i) ∙ one-times (entry s i p) (entry-below s i p)
 
 -- ---- words add and scale
 
@@ -53,6 +83,15 @@ module _ (s : Settings) where
   pub wordAt-below : (u : ℕ → ℕ) (p : ℕ) → wordAt s u p < 256
   unfolding wordAt
   wordAt-below u p = sum-below 8 (kOf s) (λ r. u r ⊗ entry s r p) (λ r _. times-below (u r) (entry s r p))
+
+-- a sum of multiples of words is a word
+pub word-of-sum : (s : Settings) (m : ℕ) (c : ℕ → ℕ) (u : ℕ → ℕ → ℕ) (p : ℕ)
+    → wordAt s (λ r. sum m (λ e. c e ⊗ u e r)) p ≡ sum m (λ e. c e ⊗ wordAt s (u e) p)
+unfolding sum
+word-of-sum s zero c u p = wordAt-zeros s (λ r. 0) (λ r h. refl) p
+word-of-sum s (suc m) c u p =
+    wordAt-plus s (λ r. sum m (λ e. c e ⊗ u e r)) (λ r. c m ⊗ u m r) p
+    ∙ ap₂ _⊕_ (word-of-sum s m c u p) (wordAt-times s (c m) (u m) p)
 
 -- ---- the first k positions are triangular
 

@@ -1,13 +1,11 @@
 -- Document 01, "The matrix": the spread form, and the generator matrix G.
-use mathlib.Core.Bool.{Bool, cond, _&&_}
-use mathlib.Core.List.{List}
+use mathlib.Core.Bool.{cond, _&&_}
 use Prim.Native.Nat.{ℕ, zero, suc, _+_, _-_}
 use lib.Dec.{eqb, ltb, leb}
 use Rattle.galois.specs.Narrow.{_⊞_, _⊠_, narrowQuotient}
 use Rattle.galois.specs.Byte.{alpha, widen}
 use Rattle.code.specs.declared.settings.Settings.{Settings}
 use Rattle.code.specs.Settings.{delayOf, kOf, nOf, dOf}
-use Rattle.galois.specs.Table.{table}
 
 -- the zero points of row i in order: 0 to i - 1, then i + N onward
 unfoldable pub point : ℕ → ℕ → ℕ → ℕ
@@ -36,11 +34,3 @@ entry s i j =
     cond (ltb i (kOf s) && ltb j (nOf s))
     (cond (ltb i (dOf s) && leb (delayOf s) j) (alphaEntry (delayOf s) i j) (widen (spread s i j)))
     0
-
--- G as 16 rows of 16
-unfoldable pub generatorOf : Settings → List (List ℕ)
-generatorOf s = table 16 (λ i. table 16 (λ j. entry s i j))
-
--- the end of the source positions of row i that are not 0: its zero points above it start at i + N, or none is left before k
-unfoldable pub bandEnd : Settings → ℕ → ℕ
-bandEnd s i = cond (ltb (kOf s) (i + s .scattered)) (kOf s) (i + s .scattered)

@@ -9,7 +9,6 @@ use borrow.Author.Tests.{lt-ltb}
 use lib.Arith.{digits-div, digits-mod}
 use lib.Dec.{T, eqb, ltb}
 use lib.ListN.{getD}
-use Rattle.galois.proofs.ByIndex.{getD-table}
 use Rattle.code.specs.declared.settings.Settings.{Settings}
 use Rattle.code.specs.Settings.{accepted, kOf, nOf}
 use Rattle.code.proofs.Shape.{shape}
@@ -19,9 +18,10 @@ use Rattle.elimination.proofs.LaneDecided.{symbol-decided}
 use Rattle.lanes.specs.Lanes.{laneByte}
 use Rattle.lanes.proofs.Shares.{lane-inside}
 use Rattle.protocol.specs.Verdict.{rowAt, reportedAt, arrived, symbolSaid, wholeByte}
-use Rattle.decision.specs.Decision.{placesOf, knownFlag, flagsOf, sharedByte}
-use Rattle.decision.proofs.Filled.{upTo, up-below}
-use Rattle.decision.proofs.Places.{place-at}
+use Rattle.places.specs.Places.{placesOf, knownFlag, flagsOf}
+use Rattle.places.proofs.Flags.{flag-at}
+use Rattle.places.proofs.Places.{place-at}
+use Rattle.decision.specs.Decision.{sharedByte}
 use Rattle.decision.proofs.SameValues.{same-values}
 
 flag-read : (b : Bool) → eqb (cond b 1 0) 1 ≡ b
@@ -42,26 +42,20 @@ unfolding laneByte
 lane-below s places rows below v p = byte-below (ltb p (nOf s)) (getD rows (getD places p 0 + v) 0) (below (getD places p 0 + v))
 
 module _ (s : Settings) (passed : T (accepted s)) (rows : List ℕ) (due t i : ℕ) where
-  -- a flag of the word, by what is read
-  flag-at : (p : ℕ) → p < nOf s → getD (flagsOf s rows (due + i) t i) p 0 ≡ knownFlag rows (due + i) (t + p) (rowAt s t i p)
-  unfolding flagsOf
-  flag-at p hp =
-      let h = shape s passed in
-      let flag : ℕ → ℕ = λ p. knownFlag rows (due + i) (t + p) (rowAt s t i p) in
-      getD-table 16 (upTo (nOf s) flag) p 0 (omega arith) ∙ up-below (nOf s) flag p hp
-
-  -- it is 0 or 1
+  -- a flag is 0 or 1
   pub flag-cases : (p : ℕ) → p < nOf s
       → (getD (flagsOf s rows (due + i) t i) p 0 ≡ 0) ⊎ (getD (flagsOf s rows (due + i) t i) p 0 ≡ 1)
   unfolding knownFlag
-  flag-cases p hp = rw (flag-at p hp) (flag-two (ltb (t + p) (due + i) && eqb (getD rows (rowAt s t i p) 0) 1))
+  flag-cases p hp =
+      rw (flag-at s (shape s passed) t i p hp rows (due + i))
+      (flag-two (ltb (t + p) (due + i) && eqb (getD rows (rowAt s t i p) 0) 1))
 
   -- the positions known by the flags are those that arrived
   known-read : (v p : ℕ) → p < nOf s → knownIn s (flagsOf s rows (due + i) t i) p ≡ arrived s rows due t i v .known p
   unfolding knownIn knownFlag arrived reportedAt
   known-read v p hp =
       rw (lt-ltb p (nOf s) hp)
-      (ap (λ (x : ℕ). eqb x 1) (flag-at p hp)
+      (ap (λ (x : ℕ). eqb x 1) (flag-at s (shape s passed) t i p hp rows (due + i))
       ∙ flag-read (arrived s rows due t i v .known p))
 
   -- and their bytes too

@@ -2,96 +2,23 @@
 use mathlib.Core.Path.{_≡_, refl, sym, ap, _∙_, subst}
 use mathlib.Core.Bool.{Bool, true, false, cond, not, _&&_, and-false}
 use mathlib.Core.List.{List}
-use mathlib.Core.Logic.{_⊎_, inl, inr, ⊎-elim}
-use Prim.Native.Nat.{ℕ, _≤_, _<_}
+use mathlib.Core.Logic.{⊎-elim}
+use Prim.Native.Nat.{ℕ, _<_}
 use native.Mathlib.Omega.{arith}
 use lib.Dec.{T, eqb, ltb}
-use lib.ListN.{length, getD, set}
-use lib.Seq.{set-out, getD-set-same, getD-set-other}
-use borrow.Author.Tests.{eq-eqb, eqb-true, eqb-false, lt-ltb, le-ltb}
+use lib.ListN.{length, getD}
+use borrow.Author.Tests.{eq-eqb}
 use Rattle.galois.specs.Byte.{_⊗_}
-use Rattle.galois.specs.Table.{table}
-use Rattle.galois.proofs.ByIndex.{length-table, getD-table}
 use Rattle.galois.proofs.ByteProduct.{times-comm, times-zero, one-times}
-use Rattle.galois.proofs.Cases.{le-or-lt}
 use Rattle.galois.proofs.Sums.{sum-single}
 use Rattle.code.specs.declared.settings.Settings.{Settings}
 use Rattle.code.specs.Settings.{accepted, kOf, nOf}
-use Rattle.code.specs.Word.{systematicOf}
 use Rattle.code.proofs.Shape.{Shape, shape}
-use Rattle.elimination.specs.Elimination.{Reduced, cell, free, eliminated, combined, clashes, symbolOf, knownIn}
+use Rattle.elimination.specs.Elimination.{Reduced, cell, free, eliminated, combined, clashes, symbolOf, knownIn, Solved}
 use Rattle.elimination.proofs.Invariant.{Pivot, Invariant, invariant-end}
-use Rattle.elimination.proofs.Reductions.{sixteen-roles, source-role}
 use Rattle.elimination.proofs.PivotSearch.{getD-default, is-pivot}
 use Rattle.lanes.proofs.Clashes.{any-same}
-use Rattle.decision.specs.Decision.{parityFlags, Solved, SourcesSolved, Unsolved}
-use Rattle.decision.proofs.Filled.{upTo, up-below}
-
--- ---- the positions that are left out
-
-pub parity-length : (s : Settings) (flags : List ℕ) → length (parityFlags s flags) ≡ 16
-unfolding parityFlags
-parity-length s flags = length-table 16 (upTo (nOf s) (λ q. cond (ltb q (kOf s)) 0 (getD flags q 0)))
-
--- all sources, as the known ones are positions of pivots
-pub parity-left : (s : Settings) → nOf s ≤ 16 → (flags roles : List ℕ) → SourcesSolved s flags roles → Unsolved s flags roles (parityFlags s flags)
-unfolding SourcesSolved Unsolved parityFlags
-parity-left s few flags roles solved q word =
-    ⊎-elim (λ past. inl (at ∙ rw (le-ltb q (kOf s) past)))
-    (λ source.
-    let none : getD (parityFlags s flags) q 0 ≡ 0 = at ∙ rw (lt-ltb q (kOf s) source) in
-    ⊎-elim (λ zero. inl (none ∙ sym zero)) (λ pivot. inr (none, pivot)) (solved q source))
-    (le-or-lt (kOf s) q)
-  where
-    flag : ℕ → ℕ
-    flag q = cond (ltb q (kOf s)) 0 (getD flags q 0)
-
-    at : getD (table 16 (upTo (nOf s) flag)) q 0 ≡ flag q
-    at = getD-table 16 (upTo (nOf s) flag) q 0 (omega arith) ∙ up-below (nOf s) flag q word
-
--- elimination makes them so, where a flag is 0 or 1
-pub sources-solved : (s : Settings) → T (accepted s) → (flags : List ℕ)
-    → ((q : ℕ) → q < kOf s → (getD flags q 0 ≡ 0) ⊎ (getD flags q 0 ≡ 1)) → SourcesSolved s flags (eliminated s (knownIn s flags) .roles)
-unfolding SourcesSolved eliminated knownIn
-sources-solved s passed flags two q source =
-    let h : Shape s = shape s passed in
-    let known : ℕ → Bool = knownIn s flags in
-    let roles : List ℕ = eliminated s known .roles in
-    ⊎-elim (λ zero. inl zero)
-    (λ one.
-    let is-known : T (known q) = rw (lt-ltb q (nOf s) (omega arith), one) tt in
-    let inside : q < length roles = omega (arith, sixteen-roles s h (systematicOf s) known (s .burst)) in
-    inr
-    (record {
-      row = q;
-      below = source;
-      role = sym (getD-default roles q 16 0 inside) ∙ source-role s h (systematicOf s) known (s .burst) q source is-known;
-      inside = omega arith;
-    }))
-    (two q source)
-
--- one more
-pub left-more : (s : Settings) (flags roles left : List ℕ) (r : ℕ) → r < kOf s → length left ≡ 16 → Unsolved s flags roles left
-    → Unsolved s flags roles (set left (getD roles r 0) 0)
-unfolding Unsolved
-left-more s flags roles left r below sixteen un q word = go (eqb q (getD roles r 0)) refl
-  where
-    p : ℕ
-    p = getD roles r 0
-
-    go : (t : Bool) → eqb q p ≡ t
-        → (getD (set left p 0) q 0 ≡ getD flags q 0) ⊎ ((getD (set left p 0) q 0 ≡ 0) × Solved s roles q)
-    go true e =
-        let same : q ≡ p = eqb-true q p e in
-        ⊎-elim (λ out. rw (set-out left p 0 (omega arith)) (un q word))
-        (λ inside. inr (
-          ap (λ (j : ℕ). getD (set left p 0) j 0) same ∙ getD-set-same left p 0 0 (omega arith),
-          record { row = r; below = below; role = sym same; inside = omega arith },
-        ))
-        (le-or-lt 16 p)
-    go false e = rw (getD-set-other left p q 0 0 (eqb-false q p e)) (un q word)
-
--- ---- the same is said without them
+use Rattle.decision.proofs.ParityFlags.{Unsolved}
 
 module _ (s : Settings) (passed : T (accepted s)) (flags left : List ℕ) (byte : ℕ → ℕ) (bytes : (p : ℕ) → byte p < 256) where
   abbrev x : Reduced

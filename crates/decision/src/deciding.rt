@@ -1,7 +1,6 @@
 // The receiver's decision on one message: for each source symbol one elimination, and one answer for all lanes.
-use crate::known::unsolved;
-use crate::starts::locate;
 use code::Settings;
+use places::locate;
 use protocol::Reply;
 use protocol::clear;
 ghost use mathlib.Core.Bool.{cond};
@@ -14,7 +13,8 @@ ghost use Rattle.code.specs.Word.{systematicOf};
 ghost use Rattle.lanes.specs.Lanes.{Clear};
 ghost use Rattle.protocol.specs.Lengths.{messageLen};
 ghost use Rattle.protocol.specs.Verdict.{verdict, bufferOf};
-ghost use Rattle.decision.specs.Decision.{Ready, Told};
+ghost use Rattle.places.specs.Places.{Ready};
+ghost use Rattle.decision.specs.Decision.{Told};
 
 // The larger of two marks.
 fn worse(a: u8, b: u8) -> u8
@@ -43,12 +43,11 @@ fn write_symbol(
 {
     let mut places = [0usize; 16];
     let mut flags = [0u8; 16];
-    locate(s, rows, due + i, t, i, &mut places, &mut flags);
-    let mut roles = [0u8; 16];
+    let mut roles = [16u8; 16];
+    locate(s, rows, due + i, t, i, &mut places, &mut flags, &mut roles);
     let mut reduced = *matrix;
-    elimination::eliminate(s, &mut reduced, &flags, &mut roles);
-    let left = unsolved(s, &flags, &roles);
-    lanes::answer(s, &reduced, &roles, &left, &places, rows, i, pairs, out)
+    reduction::eliminate(s, &mut reduced, &mut flags, &mut roles);
+    lanes::answer(s, &reduced, &roles, &flags, &places, rows, i, pairs, out)
 }
 
 // What the receiver says of message t, once the slots below due are reported. The buffer gets the message when it is whole, else
@@ -57,7 +56,7 @@ pub(crate) fn decided(s: Settings, rows: &[u8], due: usize, t: usize, message: &
     requires { ⌜ Ready s (now rows) t × (due < 4294967296) × (length (now message) ≡ messageLen s) ⌝ }
     ensures { λ r. ⌜ (r ≡ verdict s (now (rows .entry)) due t) × (now (message .exit) ≡ bufferOf s (now (rows .entry)) due t r) ⌝ }
 {
-    let matrix = code::systematic(s);
+    let matrix = generator::systematic(s);
     let mut pairs = [[0u8; 64]; 32];
     let lanes = s.lanes as usize;
     let mut worst: u8 = 0;

@@ -1,7 +1,5 @@
 // The decision on one message, by the receiver's rows. The call takes any input at all, and a refused call changes nothing.
 mod deciding;
-mod known;
-mod starts;
 
 use code::Settings;
 use deciding::decided;

@@ -16,7 +16,7 @@ use Rattle.code.specs.Matrix.{entry}
 use Rattle.code.specs.Settings.{accepted, kOf, nOf}
 use Rattle.code.specs.Word.{systematicOf}
 use Rattle.code.proofs.Shape.{Shape, shape}
-use Rattle.elimination.specs.Elimination.{cell, free, Reduced, cleared, firstRoles, columns, eliminated}
+use Rattle.elimination.specs.Elimination.{cell, free, Reduced, cleared, firstRoles, columns, started, eliminated}
 use Rattle.elimination.proofs.Spans.{Spans, spans-trans}
 use Rattle.elimination.proofs.SystematicRows.{systematic-below, source-one, source-zero, systematic-spans}
 use Rattle.elimination.proofs.Steps.{same-or-other, cleared-below, cleared-kept, cleared-one, cleared-zero, cleared-spans}
@@ -71,8 +71,7 @@ module _ (s : Settings) (passed : T (accepted s)) (known : ℕ → Bool) where
       sym (first-role s h known r hr ∙ ap (λ (b : Bool). cond b r 16) (is-true (known r) kn)) ∙ at in omega arith)
 
   -- the systematic form, with the known sources as pivots
-  invariant-start : Invariant s known (kOf s) (columns s (systematicOf s) known 0)
-  unfolding columns
+  invariant-start : Invariant s known (kOf s) (started s known)
   invariant-start = record {
     words = systematic-spans s passed;
     sixteen = first-sixteen s known;
@@ -166,17 +165,17 @@ module _ (s : Settings) (h : Shape s) (known : ℕ → Bool) (p : ℕ) (hp : p <
 
 -- it holds after any number of parity positions
 pub invariant : (s : Settings) → T (accepted s) → (known : ℕ → Bool) (e : ℕ) → e ≤ s .burst
-    → Invariant s known (kOf s + e) (columns s (systematicOf s) known e)
+    → Invariant s known (kOf s + e) (columns s known (started s known) e)
 unfolding columns
 invariant s passed known zero he =
-    subst⁻¹ (λ (p : ℕ). Invariant s known p (columns s (systematicOf s) known 0)) (add-zero (kOf s)) (invariant-start s passed known)
+    subst⁻¹ (λ (p : ℕ). Invariant s known p (started s known)) (add-zero (kOf s)) (invariant-start s passed known)
 invariant s passed known (suc e) he =
     let h : Shape s = shape s passed in
     let p : ℕ = kOf s + e in
     let hp : p < nOf s = omega arith in
-    let x : Reduced = columns s (systematicOf s) known e in
+    let x : Reduced = columns s known (started s known) e in
     let i : Invariant s known p x = invariant s passed known e (omega arith) in
-    subst⁻¹ (λ (q : ℕ). Invariant s known q (columns s (systematicOf s) known (suc e))) (add-suc (kOf s) e)
+    subst⁻¹ (λ (q : ℕ). Invariant s known q (columns s known (started s known) (suc e))) (add-suc (kOf s) e)
     (step-cases (Invariant s known (suc p)) (kOf s) (known p) p x (omega arith)
     (λ unknown. unchanged s h known p hp x i (λ kn. absurd (unknown kn)))
     (λ kn zero-here. unchanged s h known p hp x i (λ _. zero-here))
@@ -186,5 +185,5 @@ invariant s passed known (suc e) he =
 pub invariant-end : (s : Settings) → T (accepted s) → (known : ℕ → Bool) → Invariant s known (nOf s) (eliminated s known)
 unfolding eliminated
 invariant-end s passed known =
-    subst⁻¹ (λ (p : ℕ). Invariant s known p (columns s (systematicOf s) known (s .burst))) (shape s passed .symbols)
+    subst⁻¹ (λ (p : ℕ). Invariant s known p (columns s known (started s known) (s .burst))) (shape s passed .symbols)
     (invariant s passed known (s .burst) (le-refl (s .burst)))

@@ -2,7 +2,6 @@
 pub mod Passing
 pub mod ValueLaws
 pub mod PivotSearch
-pub mod Rewritten
 pub mod Spans
 pub mod SystematicRows
 pub mod Steps
@@ -12,6 +11,7 @@ pub mod Invariant
 pub mod Agreeing
 pub mod Decided
 pub mod Reductions
+pub mod LeftFlags
 pub mod OwnColumns
 pub mod Terms
 pub mod Answers

@@ -95,6 +95,12 @@ pivoted-none : (k : ℕ) (x : Reduced) (r p : ℕ) → r ≡ 16 → pivoted k x 
 unfolding pivoted
 pivoted-none k x r p e = rw (e, pivoted)
 
+-- where a row can be the pivot of a known position, it clears the column and takes the role
+pub pivot-step : (k p : ℕ) (x : Reduced) (b : Bool) → b ≡ true → pivotFrom x p 0 k < 16
+    → record { rows = cleared k (x .rows) (pivotFrom x p 0 k) p; roles = set (x .roles) (pivotFrom x p 0 k) p } ≡ columnStep k b p x
+unfolding columnStep pivoted
+pivot-step k p x b e h = rw (e, columnStep, lt-ltb (pivotFrom x p 0 k) 16 h, pivoted)
+
 -- what holds of the matrix and its roles where the position is not known, where it has no pivot, and where it has one
 pub step-cases : (P : Reduced → Type 0) (k : ℕ) (known : Bool) (p : ℕ) (x : Reduced) → k ≤ 16
     → ((T known → ⊥) → P x)

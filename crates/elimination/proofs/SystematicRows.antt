@@ -16,11 +16,11 @@ use Rattle.galois.proofs.Sums.{sum-equal, sum-single, sum-below}
 use Rattle.code.specs.declared.settings.Settings.{Settings}
 use Rattle.code.specs.Settings.{accepted, kOf}
 use Rattle.code.specs.Matrix.{entry}
-use Rattle.code.specs.Word.{wordAt, multipliers, symbol, unit, systematicOf}
+use Rattle.code.specs.Word.{wordAt, symbol, unit, systematicOf}
 use Rattle.code.proofs.Shape.{Shape, shape}
-use Rattle.code.proofs.Words.{wordAt-below, word-equal}
-use Rattle.code.proofs.Symbols.{symbol-source, symbol-below}
-use Rattle.code.proofs.BackSubstitution.{unit-self, unit-other, unit-below, word-of-sum, systematic-accepted}
+use Rattle.code.proofs.Words.{unit-self, unit-other, wordAt-below, word-of-sum, word-equal}
+use Rattle.code.proofs.Symbols.{symbol-below}
+use Rattle.code.proofs.Systematic.{unit-multiplier, unit-source, systematic-accepted}
 use Rattle.elimination.specs.Elimination.{cell}
 use Rattle.elimination.proofs.Spans.{Bytes, Spans, within-rows}
 
@@ -45,13 +45,13 @@ module _ (s : Settings) (passed : T (accepted s)) where
   pub source-one : (r : ℕ) → r < kOf s → cell (systematicOf s) r r ≡ 1
   source-one r hr =
       let h : Shape s = shape s passed in
-      systematic-cell r r (omega arith) (omega arith) ∙ symbol-source s h (unit r) (unit-below r) r hr ∙ unit-self r
+      systematic-cell r r (omega arith) (omega arith) ∙ unit-source s h r r hr ∙ unit-self r
 
   -- and every other row is 0
   pub source-zero : (r p : ℕ) → r < kOf s → p < kOf s → p ≢ r → cell (systematicOf s) r p ≡ 0
   source-zero r p hr hp ne =
       let h : Shape s = shape s passed in
-      systematic-cell r p (omega arith) (omega arith) ∙ symbol-source s h (unit r) (unit-below r) p hp ∙ unit-other r p ne
+      systematic-cell r p (omega arith) (omega arith) ∙ unit-source s h r p hp ∙ unit-other r p ne
 
   -- ---- its words
 
@@ -61,7 +61,7 @@ module _ (s : Settings) (passed : T (accepted s)) where
   word-of-sources u hu p =
       let h : Shape s = shape s passed in
       let x : ℕ → ℕ = wordAt s u in
-      let own : ℕ → ℕ → ℕ = λ r q. getD (multipliers s (unit r) (kOf s)) q 0 in
+      let own : ℕ → ℕ → ℕ = unit-multiplier s in
       let mine : ℕ → ℕ = λ q. sum (kOf s) (λ r. x r ⊗ own r q) in
       let is-sum : (q : ℕ) → wordAt s mine q ≡ sum (kOf s) (λ r. x r ⊗ symbol s (unit r) q) = λ q. word-of-sum s (kOf s) x own q in
       word-equal s h u mine hu
@@ -73,7 +73,7 @@ module _ (s : Settings) (passed : T (accepted s)) where
       at-source : (q : ℕ) → q < kOf s → sum (kOf s) (λ r. wordAt s u r ⊗ symbol s (unit r) q) ≡ wordAt s u q
       at-source q hq =
           let h : Shape s = shape s passed in
-          let source : (r : ℕ) → symbol s (unit r) q ≡ unit r q = λ r. symbol-source s h (unit r) (unit-below r) q hq in
+          let source : (r : ℕ) → symbol s (unit r) q ≡ unit r q = λ r. unit-source s h r q hq in
           sum-single (kOf s) q (λ r. wordAt s u r ⊗ symbol s (unit r) q) hq
           (λ r hr ne. ap (λ (y : ℕ). wordAt s u r ⊗ y) (source r ∙ unit-other r q (λ same. ne (sym same))) ∙ times-zero (wordAt s u r))
           ∙ ap (λ (y : ℕ). wordAt s u q ⊗ y) (source q ∙ unit-self q)
@@ -86,7 +86,7 @@ module _ (s : Settings) (passed : T (accepted s)) where
       let h : Shape s = shape s passed in
       record {
         there =
-            within-rows (kOf s) 16 (cell (systematicOf s)) (entry s) (λ r q. getD (multipliers s (unit r) (kOf s)) q 0)
+            within-rows (kOf s) 16 (cell (systematicOf s)) (entry s) (unit-multiplier s)
             (λ r p hr hp. systematic-cell r p (omega arith) hp);
         back = λ u hu. (
           wordAt s u,

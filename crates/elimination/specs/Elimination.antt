@@ -1,10 +1,11 @@
 -- Elimination of the systematic form over the known positions, as lists, and what it says of a symbol. The known sources are pivots
 -- from the start, so only the parity positions are worked through.
+use mathlib.Core.Path.{_≡_}
 use mathlib.Core.Bool.{Bool, true, false, cond, not, _&&_}
 use mathlib.Core.List.{List, [], _∷_}
-use Prim.Native.Nat.{ℕ, zero, suc, _+_}
+use Prim.Native.Nat.{ℕ, zero, suc, _+_, _<_}
 use lib.Dec.{eqb, ltb}
-use lib.ListN.{getD, set, replicate}
+use lib.ListN.{getD, set}
 use Rattle.galois.specs.Bounded.{any}
 use Rattle.galois.specs.Byte.{_⊕_, _⊗_, quotient}
 use Rattle.galois.specs.Sum.{sum}
@@ -63,14 +64,18 @@ columnStep k known p x = elim known [ true ↦ pivoted k x (pivotFrom x p 0 k) p
 unfoldable pub firstRoles : Settings → (ℕ → Bool) → List ℕ
 firstRoles s known = table 16 (λ r. cond (ltb r (kOf s) && known r) r 16)
 
--- the matrix m with its first e parity positions done
-unfoldable pub columns : Settings → List (List ℕ) → (ℕ → Bool) → ℕ → Reduced
-columns s m known zero = record { rows = m; roles = firstRoles s known }
-columns s m known (suc e) = columnStep (kOf s) (known (kOf s + e)) (kOf s + e) (columns s m known e)
+-- a matrix and its rows' roles with the first e parity positions done
+unfoldable pub columns : Settings → (ℕ → Bool) → Reduced → ℕ → Reduced
+columns s known x zero = x
+columns s known x (suc e) = columnStep (kOf s) (known (kOf s + e)) (kOf s + e) (columns s known x e)
+
+-- the systematic form, with each known source the pivot of its own row
+abbrev pub started : Settings → (ℕ → Bool) → Reduced
+started s known = record { rows = systematicOf s; roles = firstRoles s known }
 
 -- the systematic form with all parity positions done
 unfoldable pub eliminated : Settings → (ℕ → Bool) → Reduced
-eliminated s known = columns s (systematicOf s) known (s .burst)
+eliminated s known = columns s known (started s known) (s .burst)
 
 -- the sum of the pivots' rows, each by the byte at its position, at position q
 unfoldable pub combined : Settings → Reduced → (ℕ → ℕ) → ℕ → ℕ
@@ -97,14 +102,34 @@ symbolOf s x known byte i =
 unfoldable pub knownIn : Settings → List ℕ → ℕ → Bool
 knownIn s flags p = ltb p (nOf s) && eqb (getD flags p 0) 1
 
--- elimination of the matrix m over the flags; for settings that are not accepted, m itself and no pivot
-unfoldable pub reducedFrom : Settings → List (List ℕ) → List ℕ → Reduced
-reducedFrom s m flags =
-    elim (accepted s) [
-      | true ↦ columns s m (knownIn s flags) (s .burst)
-      | false ↦ record { rows = m; roles = replicate 16 16 }
-    ]
+-- elimination over the flags of the parity positions; for settings that are not accepted nothing is done
+unfoldable pub reducedFrom : Settings → Reduced → List ℕ → Reduced
+reducedFrom s x flags = elim (accepted s) [ true ↦ columns s (knownIn s flags) x (s .burst) | false ↦ x ]
 
--- elimination of the systematic form over the flags
+-- elimination of the systematic form over the flags of all positions
 unfoldable pub reducedOf : Settings → List ℕ → Reduced
-reducedOf s flags = reducedFrom s (systematicOf s) flags
+reducedOf s flags = reducedFrom s (started s (knownIn s flags)) flags
+
+-- ---- the flags that are left to be checked
+
+-- what is left of the flag of position p: 0 where it becomes a pivot
+unfoldable pub leftFlag : ℕ → Bool → ℕ → Reduced → ℕ → ℕ
+leftFlag k known p x flag = cond (known && ltb (pivotFrom x p 0 k) 16) 0 flag
+
+-- the flags after the first e parity positions
+unfoldable pub leftAfter : Settings → Reduced → List ℕ → ℕ → List ℕ
+leftAfter s x flags zero = flags
+leftAfter s x flags (suc e) =
+    set (leftAfter s x flags e) (kOf s + e)
+    (leftFlag (kOf s) (knownIn s flags (kOf s + e)) (kOf s + e) (columns s (knownIn s flags) x e) (getD flags (kOf s + e) 0))
+
+-- the flags after elimination; for settings that are not accepted they stay
+unfoldable pub leftFrom : Settings → Reduced → List ℕ → List ℕ
+leftFrom s x flags = elim (accepted s) [ true ↦ leftAfter s x flags (s .burst) | false ↦ flags ]
+
+-- position q is that of a pivot
+pub record Solved (s : Settings) (roles : List ℕ) (q : ℕ) : Type 0 where
+  pub row : ℕ
+  pub below : row < kOf s
+  pub role : getD roles row 0 ≡ q
+  pub inside : q < 16

@@ -1,6 +1,4 @@
-// Elimination over the known positions of a codeword, and what the fitting words say of a symbol.
+// What the fitting words say of a symbol, through elimination over the known positions of a codeword.
 mod lane;
-mod reduction;
 
 pub use lane::Symbol;
-pub use reduction::eliminate;

@@ -14,7 +14,7 @@ use Rattle.galois.specs.Bounded.{any}
 use Rattle.galois.specs.Byte.{_⊕_}
 use Rattle.galois.proofs.Xor.{plus-self, plus-cancel}
 use Rattle.galois.proofs.Cases.{is-true, and-left, and-right, both-pass, any-at, some-any, any-one, any-none}
-use Rattle.multiples.specs.Pairs.{weightedOf}
+use Rattle.vectors.specs.Pairs.{weightedOf}
 use Rattle.code.specs.declared.settings.Settings.{Settings}
 use Rattle.code.specs.Settings.{kOf, nOf}
 use Rattle.code.proofs.Shape.{Shape}

@@ -9,8 +9,8 @@ use lib.ListN.{length, getD, take, drop, replicate, length-take, length-drop}
 use lib.Seq.{getD-take, getD-drop}
 use Rattle.galois.proofs.ByIndex.{is-table, length-table, getD-table}
 use Rattle.galois.proofs.Cases.{le-or-lt}
-use Rattle.multiples.specs.Pairs.{vectorOf, pairedUp}
-use Rattle.multiples.proofs.PairLaws.{blank-wide, blank-paired, paired-wide, paired-kept, paired-other, paired-first, paired-no-first, paired-second, paired-no-second}
+use Rattle.vectors.specs.Pairs.{vectorOf, pairedUp}
+use Rattle.vectors.proofs.PairLaws.{blank-wide, blank-paired, paired-wide, paired-kept, paired-other, paired-first, paired-no-first, paired-second, paired-no-second}
 use Rattle.code.specs.declared.settings.Settings.{Settings}
 use Rattle.code.specs.Settings.{nOf}
 use Rattle.code.proofs.Shape.{Shape}
@@ -154,7 +154,7 @@ module _ (s : Settings) (roles places bytes : List ℕ) (h : Shape s) (pairs : L
       ⊎-elim (λ other. ⊎-elim at-second (at-first other) (le-or-lt (j * 2 + 1) r))
       (λ less.
       ap (λ (l : List ℕ). getD l v 0)
-      (paired-other pairs j first (keptOf s a) second (keptOf s b) (clear .wide) few fits r (λ e. omega arith)) ∙ before r v less lane)
+      (paired-other pairs j first (keptOf s a) second (keptOf s b) (clear .wide) few fits r (omega arith) (λ e. omega arith)) ∙ before r v less lane)
       (le-or-lt (j * 2) r)
     where
       Put : ℕ → Type 0
@@ -174,6 +174,7 @@ all-gathered s roles places bytes pairs few clear shared =
       clear = clear;
       paired =
           record {
+            few = few;
             zeros = λ j v below lane. clear .paired .zeros j v (omega arith) lane;
             sums = λ j v below lane. clear .paired .sums j v (omega arith) lane;
           };

@@ -15,7 +15,7 @@ use Rattle.galois.proofs.ByIndex.{is-table, length-table, getD-table, table-equ
 use Rattle.galois.proofs.ByteProduct.{times-comm, times-zero, one-times}
 use Rattle.galois.proofs.Sums.{sum-equal, sum-zeros, sum-split, sum-single}
 use Rattle.galois.proofs.Xor.{plus-zero}
-use Rattle.multiples.specs.Pairs.{vectorOf, weightedOf}
+use Rattle.vectors.specs.Pairs.{vectorOf, weightedOf}
 use Rattle.code.specs.declared.settings.Settings.{Settings}
 use Rattle.code.specs.Settings.{kOf, nOf}
 use Rattle.code.proofs.Shape.{Shape}

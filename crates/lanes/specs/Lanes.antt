@@ -8,7 +8,7 @@ use lib.ListN.{length, getD}
 use Rattle.galois.specs.Bounded.{any}
 use Rattle.galois.specs.Byte.{_⊗_}
 use Rattle.galois.specs.Table.{table}
-use Rattle.multiples.specs.Pairs.{vectorOf, Wide, Paired, weightedOf}
+use Rattle.vectors.specs.Pairs.{vectorOf, Wide, Paired, weightedOf}
 use Rattle.code.specs.declared.settings.Settings.{Settings}
 use Rattle.code.specs.Settings.{accepted, kOf, nOf}
 use Rattle.elimination.specs.Elimination.{Reduced, free, cell, combined, clashes, differs, knownIn}

@@ -1,13 +1,13 @@
 // Whether no word fits, and whether the fitting words differ in a symbol.
 use code::Settings;
-use multiples::weighted;
+use vectors::weighted;
 ghost use mathlib.Core.Bool.{not};
 ghost use mathlib.Core.Path.{_≡_};
 ghost use Prim.Native.Nat.{_<_, _≤_};
 ghost use lib.Dec.{eqb};
 ghost use lib.ListN.{length, getD};
 ghost use Rattle.galois.specs.Bounded.{any};
-ghost use Rattle.multiples.specs.Pairs.{Paired};
+ghost use Rattle.vectors.specs.Pairs.{Paired};
 ghost use Rattle.code.specs.Settings.{kOf, nOf};
 ghost use Rattle.elimination.specs.Elimination.{differs};
 ghost use Rattle.lanes.specs.Lanes.{Held, countOf, sumClash, sumsClash};

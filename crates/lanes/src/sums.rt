@@ -1,11 +1,11 @@
 // The vectors that the pivots' rows are multiplied by: the L bytes at each pivot's position, in pairs.
 use code::Settings;
-use multiples::pair_up;
+use vectors::pair_up;
 ghost use mathlib.Core.Path.{_≡_};
 ghost use Prim.Native.Nat.{_+_, _*_, _<_};
 ghost use lib.Dec.{T};
 ghost use lib.ListN.{length};
-ghost use Rattle.multiples.specs.Pairs.{Wide, pairedUp};
+ghost use Rattle.vectors.specs.Pairs.{Wide, pairedUp};
 ghost use Rattle.code.specs.Settings.{accepted};
 ghost use Rattle.lanes.specs.Lanes.{Held, Clear, Gathered, roleOf, placeOf, heldAt, keptOf};
 

@@ -1,12 +1,12 @@
 // The bytes of a symbol that is whole: those that arrived, or the weighted sum of the vectors.
 use code::Settings;
-use multiples::weighted;
+use vectors::weighted;
 ghost use mathlib.Core.Path.{_≡_};
 ghost use Prim.Native.Nat.{_<_};
 ghost use lib.Dec.{T};
 ghost use lib.ListN.{length, getD};
 ghost use Rattle.galois.specs.Table.{table};
-ghost use Rattle.multiples.specs.Pairs.{Paired, weightedOf};
+ghost use Rattle.vectors.specs.Pairs.{Paired, weightedOf};
 ghost use Rattle.code.specs.Settings.{accepted, nOf};
 ghost use Rattle.lanes.specs.Lanes.{Held, countOf, laneByte};
 

@@ -1,5 +1,4 @@
--- The laws of a row's multiples, of pairs and of weighted sums.
+-- The laws of the multiples of bytes and of rows.
 pub mod Digits
+pub mod Halves
 pub mod Multiples
-pub mod PairLaws
-pub mod Planes

@@ -1,3 +1,2 @@
 -- What the contracts of the multiples cite.
 pub mod Quarters
-pub mod Pairs

@@ -1,12 +1,9 @@
-// Multiples of rows, and weighted sums of vectors of lanes, in loops that are turned into vector code.
-mod pairing;
+// Multiples of bytes and of rows, in formulas and loops that are turned into vector code.
 mod rows;
-mod sums;
 mod times;
 
-pub use pairing::pair_up;
 pub use rows::quarters;
 pub use rows::row_by;
-pub use rows::row_plus;
 pub use rows::row_times;
-pub use sums::weighted;
+pub use times::alpha_times;
+pub use times::doubled;

@@ -60,14 +60,6 @@ pub fn row_by(row: [u8; 16], c: u8, parts: &[[u8; 16]; 16]) -> [u8; 16]
     out
 }
 
-// A row with c times another row added.
-pub fn row_plus(row: [u8; 16], c: u8, other: [u8; 16]) -> [u8; 16]
-    ensures { λ r. ⌜ r ≡ table 16 (λ j. getD row j 0 ⊕ c ⊗ getD other j 0) ⌝ }
-{
-    let parts = quarters(other);
-    row_by(row, c, &parts)
-}
-
 // A byte where a number is odd, else 0.
 fn where_odd(x: u8, c: u8) -> u8
     ensures { λ r. ⌜ r ≡ x * (c % 2) ⌝ }

@@ -4,14 +4,14 @@ ghost use mathlib.Core.Path.{_≡_};
 ghost use Rattle.galois.specs.Byte.{_⊗_, alpha};
 
 // z times a byte: both halves shifted, and z^4 replaced by z + 1 in each.
-pub(crate) fn doubled(x: u8) -> u8
+pub fn doubled(x: u8) -> u8
     ensures { λ r. ⌜ r ≡ 2 ⊗ x ⌝ }
 {
     (x & 0x77) * 2 ^ (x / 8 & 0x11) * 3
 }
 
 // α times a byte: (hα + l)α = (h + l)α + 8h.
-pub(crate) fn alpha_times(x: u8) -> u8
+pub fn alpha_times(x: u8) -> u8
     ensures { λ r. ⌜ r ≡ alpha ⊗ x ⌝ }
 {
     let high = x / 16;

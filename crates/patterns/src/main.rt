@@ -8,6 +8,7 @@ ghost use mathlib.Core.Path.{_≡_};
 ghost use Prim.Native.Nat.{_<_};
 ghost use lib.Dec.{T};
 ghost use Rattle.code.specs.Settings.{accepted};
+ghost use Rattle.elimination.specs.Elimination.{firstRoles, knownIn};
 
 fn print_field(n: u64) {
     io::print_decimal(1, n);
@@ -31,16 +32,31 @@ fn print_answer(mark: u8, byte: u8) {
     }
 }
 
+// The roles at the start: each source whose flag is 1 is the pivot of its own row.
+fn first_roles(s: Settings, flags: &[u8; 16]) -> [u8; 16]
+    requires { ⌜ T (accepted s) ⌝ }
+    ensures { λ r. ⌜ r ≡ firstRoles s (knownIn s (now (flags .entry))) ⌝ }
+{
+    let mut roles = [16u8; 16];
+    let mut p: usize = 0;
+    while p < 16 {
+        roles[p] = reduction::first_role(s, flags[p], p);
+        p += 1;
+    }
+    roles
+}
+
+// One pattern of loss. Elimination leaves the flags that are to be checked.
 fn pattern(s: Settings, j: u8, x: &mut u64)
     requires { ⌜ T (accepted s) × (s .lanes ≡ 1) ⌝ }
 {
     let i = random::below(x, s.sources());
-    let flags = random::flags(x);
+    let mut flags = random::flags(x);
     let bytes = word::arrived(s, j, x);
     let places = [0usize, 1, 2, 3, 4, 5, 6, 7, 8, 9, 10, 11, 12, 13, 14, 15];
-    let mut roles = [0u8; 16];
-    let mut rows = code::systematic(s);
-    elimination::eliminate(s, &mut rows, &flags, &mut roles);
+    let mut roles = first_roles(s, &flags);
+    let mut rows = generator::systematic(s);
+    reduction::eliminate(s, &mut rows, &mut flags, &mut roles);
     let mut pairs = [[0u8; 64]; 32];
     let mut symbol = [0u8; 1];
     let mark = lanes::answer(

@@ -19,7 +19,7 @@ fn symbol(rows: &[[u8; 16]; 16], symbols: &[u8; 16], p: usize) -> u8
 }
 
 fn codeword(s: Settings, symbols: [u8; 16]) -> [u8; 16] {
-    let rows = code::systematic(s);
+    let rows = generator::systematic(s);
     let mut out = [0u8; 16];
     let mut p: usize = 0;
     while p < 16 {

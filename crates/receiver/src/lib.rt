@@ -4,7 +4,6 @@ mod frame_report;
 mod loss_report;
 mod opening;
 mod report;
-mod rows;
 
 pub use frame_report::heard;
 pub use loss_report::loss;

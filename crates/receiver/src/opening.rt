@@ -1,11 +1,11 @@
 // The receiver's opening.
-use crate::rows::receive_zeros;
 use code::Settings;
 use protocol::Answer;
 use protocol::Cause;
 use protocol::Receiver;
 use protocol::receiver_len;
 use protocol::row_len;
+use ring::receive_zeros;
 ghost use mathlib.Core.Path.{_≡_};
 ghost use Rattle.protocol.specs.Calls.{openReceiverOf};
 

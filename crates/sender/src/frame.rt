@@ -1,7 +1,7 @@
 // The frame of the slot due: 14 bytes of header, then the body.
-use crate::parity::write_parity;
 use code::Settings;
-use code::systematic;
+use generator::systematic;
+use parity::write_parity;
 use protocol::header_bytes;
 use protocol::write_at;
 ghost use mathlib.Core.List.{_++_};

@@ -2,7 +2,6 @@
 mod calls;
 mod frame;
 mod lengths;
-mod parity;
 mod rows;
 
 pub use calls::Opened;

@@ -4,7 +4,8 @@ use crate::print;
 use code::Settings;
 use protocol::Receiver;
 use protocol::Sender;
-ghost use Prim.Native.Nat.{_≤_};
+ghost use mathlib.Core.Path.{_≡_};
+ghost use Rattle.trace.specs.Cuts.{endOf, openSenderCut, openReceiverCut, sendCut, heardCut, lossCut};
 
 // The state that a call starts from, and what is not lent of the rows and of the two things after them.
 pub struct Call {
@@ -16,7 +17,9 @@ pub struct Call {
 }
 
 // A call with everything of exact length.
-pub fn exact(s: Settings, slot: u32) -> Call {
+pub fn exact(s: Settings, slot: u32) -> Call
+    ensures { λ r. ⌜ r ≡ record { settings = s; due = slot; rows = 1; first = 1; second = 1 } ⌝ }
+{
     Call {
         settings: s,
         due: slot,
@@ -28,7 +31,7 @@ pub fn exact(s: Settings, slot: u32) -> Call {
 
 // The length that is left.
 pub fn end(length: usize, cut: usize) -> usize
-    ensures { λ r. ⌜ r ≤ length ⌝ }
+    ensures { λ r. ⌜ r ≡ endOf length cut ⌝ }
 {
     if length < cut {
         return 0;
@@ -37,92 +40,81 @@ pub fn end(length: usize, cut: usize) -> usize
 }
 
 // An opening of the sender.
-pub fn open_sender(s: Settings, cut: usize, rows: &mut [u8]) -> Sender {
+pub fn open_sender(s: Settings, cut: usize, rows: &mut [u8]) -> Sender
+    ensures { λ r. ⌜ record { sender = r; rows = now (rows .exit) } ≡ openSenderCut s cut (now (rows .entry)) ⌝ }
+{
     let rows_end = end(rows.len(), cut);
     let opened = sender::open(s, &mut rows[0..rows_end]);
-    let answer = opened.answer;
-    let after = opened.sender;
-    let settings = after.settings;
-    io::write_all(1, b"open-sender");
-    print::opened(answer, settings, after.due, rows);
-    after
+    print::opened_sender(opened, rows);
+    opened.sender
 }
 
 // An opening of the receiver.
-pub fn open_receiver(s: Settings, cut: usize, rows: &mut [u8]) -> Receiver {
+pub fn open_receiver(s: Settings, cut: usize, rows: &mut [u8]) -> Receiver
+    ensures { λ r. ⌜ record { receiver = r; rows = now (rows .exit) } ≡ openReceiverCut s cut (now (rows .entry)) ⌝ }
+{
     let rows_end = end(rows.len(), cut);
     let opened = receiver::open(s, &mut rows[0..rows_end]);
-    let answer = opened.answer;
-    let after = opened.receiver;
-    let settings = after.settings;
-    io::write_all(1, b"open-receiver");
-    print::opened(answer, settings, after.due, rows);
-    after
+    print::opened_receiver(opened, rows);
+    opened.receiver
 }
 
 // A send.
-pub fn send(call: Call, rows: &mut [u8], message: &[u8], frame: &mut [u8]) -> Sender {
+pub fn send(call: Call, rows: &mut [u8], message: &[u8], frame: &mut [u8]) -> Sender
+    ensures { λ r. ⌜ record { sender = r; rows = now (rows .exit); frame = now (frame .exit) } ≡ sendCut call (now (rows .entry)) (now (message .entry)) (now (frame .entry)) ⌝ }
+{
     let s = call.settings;
+    let x = Sender {
+        settings: s,
+        due: call.due,
+    };
     let rows_end = end(rows.len(), call.rows);
     let message_end = end(message.len(), call.first);
     let frame_end = end(frame.len(), call.second);
     let sent = sender::send(
-        Sender {
-            settings: s,
-            due: call.due,
-        },
+        x,
         &mut rows[0..rows_end],
         &message[0..message_end],
         &mut frame[0..frame_end],
     );
-    let answer = sent.answer;
-    let after = sent.sender;
-    let settings = after.settings;
-    io::write_all(1, b"send");
-    print::sent(answer, settings, after.due, frame, rows);
-    after
+    print::sent(sent, frame, rows);
+    sent.sender
 }
 
 // The report of a frame.
-pub fn heard(call: Call, rows: &mut [u8], frame: &[u8], buffer: &mut [u8]) -> Receiver {
+pub fn heard(call: Call, rows: &mut [u8], frame: &[u8], buffer: &mut [u8]) -> Receiver
+    ensures { λ r. ⌜ record { receiver = r; rows = now (rows .exit); buffer = now (buffer .exit) } ≡ heardCut call (now (rows .entry)) (now (frame .entry)) (now (buffer .entry)) ⌝ }
+{
     let s = call.settings;
+    let x = Receiver {
+        settings: s,
+        due: call.due,
+    };
     let rows_end = end(rows.len(), call.rows);
     let frame_end = end(frame.len(), call.first);
     let buffer_end = end(buffer.len(), call.second);
     let reported = receiver::heard(
-        Receiver {
-            settings: s,
-            due: call.due,
-        },
+        x,
         &mut rows[0..rows_end],
         &frame[0..frame_end],
         &mut buffer[0..buffer_end],
     );
-    let reply = reported.reply;
-    let after = reported.receiver;
-    let settings = after.settings;
-    io::write_all(1, b"frame");
-    print::reported(reply, settings, after.due, buffer, rows);
-    after
+    print::reported(b"frame", reported, buffer, rows);
+    reported.receiver
 }
 
 // The report of a loss.
-pub fn loss(call: Call, rows: &mut [u8], buffer: &mut [u8]) -> Receiver {
+pub fn loss(call: Call, rows: &mut [u8], buffer: &mut [u8]) -> Receiver
+    ensures { λ r. ⌜ record { receiver = r; rows = now (rows .exit); buffer = now (buffer .exit) } ≡ lossCut call (now (rows .entry)) (now (buffer .entry)) ⌝ }
+{
     let s = call.settings;
+    let x = Receiver {
+        settings: s,
+        due: call.due,
+    };
     let rows_end = end(rows.len(), call.rows);
     let buffer_end = end(buffer.len(), call.first);
-    let reported = receiver::loss(
-        Receiver {
-            settings: s,
-            due: call.due,
-        },
-        &mut rows[0..rows_end],
-        &mut buffer[0..buffer_end],
-    );
-    let reply = reported.reply;
-    let after = reported.receiver;
-    let settings = after.settings;
-    io::write_all(1, b"loss");
-    print::reported(reply, settings, after.due, buffer, rows);
-    after
+    let reported = receiver::loss(x, &mut rows[0..rows_end], &mut buffer[0..buffer_end]);
+    print::reported(b"loss", reported, buffer, rows);
+    reported.receiver
 }

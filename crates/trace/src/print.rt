@@ -1,4 +1,4 @@
-// The parts of a line. Each but the first has a space before it.
+// The parts of a line. Each but the first has a space before it. No contract can say what is printed, and nothing lent is changed.
 use code::Settings;
 use protocol::Answer;
 use protocol::Cause;
@@ -12,37 +12,30 @@ fn number(n: u64) {
     io::print_decimal(1, n);
 }
 
-// The settings and the slot due.
-fn state(s: Settings, due: u32) {
-    number(s.window as u64);
+// The settings but for the window.
+fn settings(s: Settings) {
     number(s.delay as u64);
     number(s.burst as u64);
     number(s.scattered as u64);
     number(s.lanes as u64);
+}
+
+// The settings and the slot due.
+fn state(s: Settings, due: u32) {
+    number(s.window as u64);
+    settings(s);
     number(due as u64);
 }
 
 // The number of a cause.
-fn cause(c: Cause) {
+fn number_of(c: Cause) -> u64 {
     match c {
-        Cause::BadSettings => {
-            number(1);
-        }
-        Cause::BadLength => {
-            number(2);
-        }
-        Cause::PastLastSlot => {
-            number(3);
-        }
-        Cause::OtherMark => {
-            number(4);
-        }
-        Cause::OtherSettings => {
-            number(5);
-        }
-        Cause::OtherSlot => {
-            number(6);
-        }
+        Cause::BadSettings => 1,
+        Cause::BadLength => 2,
+        Cause::PastLastSlot => 3,
+        Cause::OtherMark => 4,
+        Cause::OtherSettings => 5,
+        Cause::OtherSlot => 6,
     }
 }
 
@@ -53,7 +46,7 @@ fn answer(a: Answer) {
             io::write_all(1, b" ok");
         }
         Answer::Refused(c) => {
-            cause(c);
+            number(number_of(c));
         }
     }
 }
@@ -62,7 +55,7 @@ fn answer(a: Answer) {
 fn reply(a: Reply) {
     match a {
         Reply::Refused(c) => {
-            cause(c);
+            number(number_of(c));
         }
         Reply::NoneYet => {
             io::write_all(1, b" none");
@@ -112,27 +105,47 @@ fn line_end() {
     io::write_all(1, b"\n");
 }
 
-// The line of an opening after its first word.
-pub(crate) fn opened(a: Answer, s: Settings, due: u32, rows: &[u8]) {
+// The line of an opening of the sender.
+pub(crate) fn opened_sender(opened: sender::Opened, rows: &[u8]) {
+    let a = opened.answer;
+    let x = opened.sender;
+    io::write_all(1, b"open-sender");
     answer(a);
-    state(s, due);
+    state(x.settings, x.due);
     sum_of(rows);
     line_end();
 }
 
-// The line of a send after its first word.
-pub(crate) fn sent(a: Answer, s: Settings, due: u32, frame: &[u8], rows: &[u8]) {
+// The line of an opening of the receiver.
+pub(crate) fn opened_receiver(opened: receiver::Opened, rows: &[u8]) {
+    let a = opened.answer;
+    let x = opened.receiver;
+    io::write_all(1, b"open-receiver");
     answer(a);
-    state(s, due);
+    state(x.settings, x.due);
+    sum_of(rows);
+    line_end();
+}
+
+// The line of a send.
+pub(crate) fn sent(sent: sender::Sent, frame: &[u8], rows: &[u8]) {
+    let a = sent.answer;
+    let x = sent.sender;
+    io::write_all(1, b"send");
+    answer(a);
+    state(x.settings, x.due);
     sum_of(frame);
     sum_of(rows);
     line_end();
 }
 
-// The line of a report after its first word.
-pub(crate) fn reported(r: Reply, s: Settings, due: u32, buffer: &[u8], rows: &[u8]) {
-    reply(r);
-    state(s, due);
+// The line of a report, from its first word on.
+pub(crate) fn reported(word: &[u8], r: receiver::Reported, buffer: &[u8], rows: &[u8]) {
+    let told = r.reply;
+    let x = r.receiver;
+    io::write_all(1, word);
+    reply(told);
+    state(x.settings, x.due);
     sum_of(buffer);
     sum_of(rows);
     line_end();
@@ -147,13 +160,10 @@ fn kind(lent: bool) {
     io::write_all(1, b" fresh");
 }
 
-// The first line of a scenario.
+// The first line of a scenario. It only prints: it is lent nothing and hands nothing back, so that no contract can say more.
 pub fn title(s: Settings, lent: bool, start: u32) {
     io::write_all(1, b"scenario");
-    number(s.delay as u64);
-    number(s.burst as u64);
-    number(s.scattered as u64);
-    number(s.lanes as u64);
+    settings(s);
     kind(lent);
     number(start as u64);
     line_end();

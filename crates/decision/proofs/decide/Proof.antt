@@ -1,5 +1,4 @@
 -- Each way out is one case of the decision.
-use borrow.Author.Needs.{needs}
 use borrow.Author.Tests.{not-true, not-false, eqb-true, eqb-false}
 use mathlib.Core.Path.{_≡_, sym, ap, _∙_, subst⁻¹}
 use mathlib.Core.Logic.{⊎-elim}
@@ -92,11 +91,11 @@ pub decide-spec : {M : Type 1} → statement M
 decide-spec =
     tie.close
     (tie.spec
-    (λ c κs. search needs)
+    (λ c κs. tt)
     returns
-    (λ c κs. search needs)
-    (λ c κs. search needs)
+    (λ c κs. tt)
+    (λ c κs. tt)
     returns-2
     decided-requires
-    (λ c. search needs)
+    (λ c. c .before .before .decided .kept .1 .1 .1 .1 .0)
     returns-3)

@@ -32,26 +32,34 @@ place-at : (p : ℕ) → p < 16 → getD places p 0 ≡ p
 unfolding table
 place-at p h = getD-table 16 (λ p. p) p 0 h
 
+-- back from elimination to where the flags were drawn
+abbrev drawn : tie.After-eliminate → tie.After-flags
+drawn c = c .before .before .before .before .before .before .before .before .before
+
+-- and from there to the entry
+abbrev begun : tie.After-flags → tie.Start
+begun c = c .before .before .before .before .before
+
 -- the matrix and the roles are those of elimination over the flags
 reduced : (c : tie.After-eliminate)
-    → let at = c .before .before .before .before in
-    both (c .eliminate .last .1 .0) (c .eliminate .last .1 .1 .1 .0)
-    ≡ reducedOf (at .before .before .before .before .before .before .before .before .args .s) (at .before .before .before .flags .result)
+    → both (c .eliminate .last .1 .0) (c .eliminate .last .1 .1 .1 .0) ≡ reducedOf (begun (drawn c) .args .s) (drawn c .flags .result)
 reduced c =
     let at = c .before .before .before .before in
-    c .eliminate .ensures
-    ∙ systematic-reduced (at .before .before .before .before .before .before .before .before .args .s) _ _ (at .systematic .ensures)
+    c .eliminate .ensures .0
+    ∙ systematic-reduced (begun (drawn c) .args .s) _ _ (drawn c .flags .result) (at .systematic .ensures) (at .before .first-roles .ensures)
 
 answer-requires : tie.Need-answer-requires
 answer-requires c κs =
     let at-eliminate = c .before .before .before .before .before .before .before in
-    let at-arrived = at-eliminate .before .before .before .before .before in
-    let start = at-arrived .before .before .before .before .before .before .before in
+    let at-flags = drawn at-eliminate in
+    let start = begun at-flags in
     let s = start .args .s in
     let h = shaped start in
-    let flags : List ℕ = at-arrived .before .before .flags .result in
-    let source : at-arrived .before .before .before .before .below .result < kOf s = omega arith in
-    let sixteen : length (at-arrived .arrived .result) ≡ 16 = search needs in (
+    let flags : List ℕ = at-flags .flags .result in
+    let i : ℕ = at-flags .before .before .below .result in
+    let source : i < kOf s = omega arith in
+    let arrived = at-eliminate .before .before .before .before .before .before .before .arrived in
+    let sixteen : length (arrived .result) ≡ 16 = search needs in (
       record {
         settings = start .pre .0;
         inside = λ p below. let few : p < 16 = omega arith in omega (arith, place-at p few);
@@ -60,8 +68,7 @@ answer-requires c κs =
       ap (λ (x : Reduced). length (x .roles)) (reduced at-eliminate) ∙ reduced-roles s (start .pre .0) flags,
       sym (start .pre .1),
       clear-start,
-      subst⁻¹ (λ (x : Reduced). Own s x (at-arrived .before .before .before .before .below .result)) (reduced at-eliminate)
-          (own-reduced s _ source (start .pre .0) flags),
+      subst⁻¹ (λ (x : Reduced). Own s x i) (reduced at-eliminate) (own-reduced s i source (start .pre .0) flags),
     )
 
 pub pattern-spec : {M : Type 1} → statement M
@@ -72,6 +79,7 @@ pattern-spec =
     below-requires
     (λ c κs. search needs)
     (λ c κs. shaped (c .before .before .before .before .before .before) .symbols-few)
+    (λ c κs. search needs)
     (λ c κs. search needs)
     (λ c κs. search needs)
     (λ c. search needs)

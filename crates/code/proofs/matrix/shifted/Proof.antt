@@ -10,4 +10,4 @@ returns : tie.Need-returns
 returns c = sym (plus-above (c .before .args .position) (c .before .args .point) (omega arith))
 
 pub shifted-spec : {M : Type 1} → statement M
-shifted-spec = tie.close (tie.spec returns (λ c. search needs) (λ c κs. search needs) (λ c. search needs))
+shifted-spec = tie.close (tie.spec returns (λ c. search needs) (λ c κs. tt) (λ c. search needs))

@@ -1,7 +1,6 @@
 -- The spread form is the product over T - N points, none where T is below N.
-use borrow.Author.Needs.{needs}
 use native.Mathlib.Omega.{arith}
-use mathlib.Core.Path.{_≡_, sym, ap, _∙_}
+use mathlib.Core.Path.{_≡_, ap, _∙_}
 use Prim.Native.Nat.{ℕ, _-_}
 use Rattle.galois.specs.Byte.{widen}
 use Rattle.code.specs.Settings.{delayOf}
@@ -28,4 +27,4 @@ returns-2 c =
     ∙ ap (λ (t : ℕ). product (a .s .scattered) (a .row) (a .position) (t - a .s .scattered)) (at-delay .effective-delay .ensures))
 
 pub spread-entry-spec : {M : Type 1} → statement M
-spread-entry-spec = tie.close (tie.spec (λ c κs. search needs) (λ c κs. search needs) (λ c κs. search needs) returns (λ c κs. search needs) (λ c κs. search needs) returns-2)
+spread-entry-spec = tie.close (tie.spec (λ c κs. tt) (λ c κs. tt) (λ c κs. tt) returns (λ c κs. tt) (λ c κs. tt) returns-2)

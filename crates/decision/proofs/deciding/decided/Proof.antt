@@ -1,9 +1,8 @@
 -- One source symbol a turn: the mark is that of the symbols before i, and while it is 0 the message is done up to symbol i.
-use borrow.Author.Needs.{needs}
 use mathlib.Core.Path.{_≡_, refl, sym, ap, ap₂, _∙_}
 use mathlib.Core.List.{List}
 use Prim.Native.Nat.{ℕ, _+_, _-_, _*_, _<_, _≤_, zero-le}
-use native.Mathlib.Nat.{zero-mul, suc-mul, mul-le-mul, mul-le-mul-right}
+use native.Mathlib.Nat.{zero-mul, suc-mul, mul-le-mul, mul-le-mul-right, le-add-right}
 use native.Mathlib.Numerals.{add-one}
 use native.Mathlib.Omega.{arith}
 use borrow.Rule.Slice.PartMut.{same-len-mid}
@@ -163,23 +162,23 @@ decided-spec =
     (tie.spec
     Inv-loop
     μ-loop
-    (λ c κs. search needs)
-    (λ c. search needs)
+    (λ c κs. tt)
+    (λ c. let start = c .before .before .before .before in omega (arith, shape (start .args .s) (start .pre .0 .settings) .lanes-few))
     loop-holds
-    (λ c κs. search needs)
+    (λ c κs. tt)
     (λ c. omega (arith, few c))
     (λ c. omega (arith, few (c .before .before)))
-    (λ c. search needs)
-    (λ c. search needs)
+    (λ c. le-add-right _ _)
+    (λ c. le-add-right _ _)
     (λ c. ends (c .before .before))
     write-symbol-requires
-    (λ c κs. search needs)
+    (λ c κs. tt)
     (λ c. omega arith)
     (λ c. omega arith)
     loop-again
     (λ c. omega arith)
     returns
-    (λ c κs. search needs)
+    (λ c κs. tt)
     (λ c. omega (arith, c .before .before .before .clear .kept .0))
     returns-2
     (λ c. omega (arith, c .before .before .before .clear .kept .0))

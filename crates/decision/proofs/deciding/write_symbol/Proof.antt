@@ -1,6 +1,5 @@
--- The flags and the places are those of the codewords that start at slot t - i, so the answer is what is told of symbol i.
-use borrow.Author.Needs.{needs}
-use mathlib.Core.Path.{_≡_, sym, ap, _∙_, subst, subst⁻¹}
+-- The flags, the roles and the places are those of the codewords that start at slot t - i, so the answer is what is told of symbol i.
+use mathlib.Core.Path.{_≡_, refl, ap, _∙_, subst⁻¹}
 use mathlib.Core.List.{List}
 use Prim.Native.Nat.{ℕ, _+_, _≤_}
 use native.Mathlib.Omega.{arith}
@@ -10,13 +9,15 @@ use Rattle.galois.proofs.Cases.{is-true}
 use Rattle.code.proofs.Shape.{Shape, shape}
 use Rattle.elimination.specs.Elimination.{Reduced, eliminated, knownIn, reducedOf}
 use Rattle.elimination.proofs.OwnColumns.{own-reduced}
-use Rattle.elimination.proofs.Reductions.{systematic-reduced, eliminated-reduced, reduced-roles}
+use Rattle.elimination.proofs.Reductions.{eliminated-reduced, reduced-roles}
+use Rattle.elimination.proofs.Roles.{first-sixteen}
 use Rattle.elimination.proofs.Terms.{both}
 use Rattle.lanes.specs.Lanes.{Own, laneByte, lanesSaid}
-use Rattle.decision.specs.Decision.{placesOf, flagsOf, SourcesSolved, Unsolved}
-use Rattle.decision.proofs.Places.{place-inside}
+use Rattle.places.specs.Places.{placesOf, flagsOf}
+use Rattle.places.proofs.Places.{place-inside}
 use Rattle.decision.proofs.LaneSaid.{lane-below, flag-cases, lane-said}
-use Rattle.decision.proofs.Pivots.{sources-solved, left-said}
+use Rattle.decision.proofs.ParityFlags.{Unsolved, located-eliminated, located-left}
+use Rattle.decision.proofs.Pivots.{left-said}
 use Rattle.decision.proofs.Answers.{told}
 use Rattle.decision.proofs.deciding.write_symbol.Statement.{statement}
 use Rattle.decision.proofs.deciding.write_symbol.Tie as tie
@@ -29,53 +30,62 @@ add-locate c =
     let h = shaped (c .before .before) in
     omega arith
 
+locate-requires : tie.Need-locate-requires
+locate-requires c κs =
+    let start = c .before .before .before .before .before in
+    (start .pre .0, start .pre .2, refl, refl, refl)
+
 -- back from elimination to where the symbols were located
 abbrev located : tie.After-eliminate → tie.After-locate
 located c = c .before .before .before .before .before
 
 -- and from there to the entry
 abbrev begun : tie.After-locate → tie.Start
-begun c = c .before .before .before .before .before
+begun c = c .before .before .before .before .before .before
 
 -- the flags that were read
 abbrev read : tie.Start → List ℕ
 read c = let a = c .args in flagsOf (a .s) (now (a .rows)) (a .due + a .i) (a .t) (a .i)
 
--- the matrix and the roles are those of elimination over the flags
-reduced-by : (c : tie.After-eliminate)
-    → let start = begun (located c) in
-    both (c .eliminate .last .1 .0) (c .eliminate .last .1 .1 .1 .0) ≡ reducedOf (start .args .s) (read start)
-reduced-by c =
-    let start = begun (located c) in
-    let s = start .args .s in
-    c .eliminate .ensures ∙ systematic-reduced s _ _ (start .pre .3) ∙ ap (reducedOf s) (located c .locate .ensures .1)
+eliminate-requires : tie.Need-eliminate-requires
+eliminate-requires c κs =
+    ap length (c .before .before .before .before .locate .ensures .2) ∙ first-sixteen _ _
 
--- which is that over the known positions
+-- the matrix and the roles are those of elimination over the flags
 reduced : (c : tie.After-eliminate)
     → let start = begun (located c) in
     both (c .eliminate .last .1 .0) (c .eliminate .last .1 .1 .1 .0) ≡ eliminated (start .args .s) (knownIn (start .args .s) (read start))
 reduced c =
     let start = begun (located c) in
-    reduced-by c ∙ sym (eliminated-reduced (start .args .s) (read start) (is-true _ (start .pre .0 .settings)))
+    let is = located c .locate .ensures in
+    c .eliminate .ensures .0
+    ∙ located-eliminated (start .args .s) (start .pre .0 .settings) (read start) _ _ _ (start .pre .3) (is .1) (is .2)
 
-unsolved-requires : tie.Need-unsolved-requires
-unsolved-requires c κs =
-    let at-eliminate = c .before .before in
-    let at-locate = located at-eliminate in
-    let start = begun at-locate in
+reduced-by : (c : tie.After-eliminate)
+    → let start = begun (located c) in
+    both (c .eliminate .last .1 .0) (c .eliminate .last .1 .1 .1 .0) ≡ reducedOf (start .args .s) (read start)
+reduced-by c =
+    let start = begun (located c) in
+    reduced c ∙ eliminated-reduced (start .args .s) (read start) (is-true _ (start .pre .0 .settings))
+
+-- and the flags that are left are those without some positions of pivots
+left-by : (c : tie.After-eliminate)
+    → let start = begun (located c) in
+    let s = start .args .s in
+    Unsolved s (read start) (eliminated s (knownIn s (read start)) .roles) (c .eliminate .last .1 .1 .0)
+left-by c =
+    let start = begun (located c) in
     let a = start .args in
-    let h = shaped start in (
-      omega arith,
-      h .symbols-few,
-      subst⁻¹ (λ (f : List ℕ). SourcesSolved (a .s) f (at-eliminate .eliminate .last .1 .1 .1 .0)) (at-locate .locate .ensures .1)
-          (subst⁻¹ (λ (x : Reduced). SourcesSolved (a .s) (read start) (x .roles)) (reduced at-eliminate)
-          (sources-solved (a .s) (start .pre .0 .settings) (read start)
-          (λ q source. flag-cases (a .s) (start .pre .0 .settings) (now (a .rows)) (a .due) (a .t) (a .i) q (omega arith)))),
-    )
+    let passed = start .pre .0 .settings in
+    let h = shaped start in
+    let is = located c .locate .ensures in
+    subst⁻¹ (Unsolved (a .s) (read start) (eliminated (a .s) (knownIn (a .s) (read start)) .roles)) (c .eliminate .ensures .1)
+    (located-left (a .s) passed (read start) _ _ _ (start .pre .3) (is .1) (is .2)
+    (λ q source. flag-cases (a .s) passed (now (a .rows)) (a .due) (a .t) (a .i) q (omega arith)))
 
 answer-requires : tie.Need-answer-requires
 answer-requires c κs =
-    let at-eliminate = c .before .before .before .before .before .before .before .before .before in
+    let at-eliminate = c .before .before .before .before .before .before in
     let at-locate = located at-eliminate in
     let start = begun at-locate in
     let a = start .args in
@@ -97,27 +107,24 @@ answer-requires c κs =
 returns : tie.Need-returns
 returns c =
     let at-answer = c .before .before in
-    let at-unsolved = at-answer .before .before .before .before .before .before .before in
-    let at-eliminate = at-unsolved .before .before .before in
+    let at-eliminate = at-answer .before .before .before .before .before .before .before in
     let at-locate = located at-eliminate in
-    let known = at-locate .before .before .before .before in
+    let known = at-locate .before .before .before .before .before in
     let start = known .before in
     let a = start .args in
     let passed = start .pre .0 .settings in
     let rows : List ℕ = now (a .rows) in
     let out : List ℕ = now (a .out) in
     let flags : List ℕ = read start in
-    let left : List ℕ = at-unsolved .unsolved .result in
+    let left : List ℕ = at-eliminate .eliminate .last .1 .1 .0 in
     let places : List ℕ = placesOf (a .s) (a .t) (a .i) in
     let x : Reduced = eliminated (a .s) (knownIn (a .s) flags) in
     let h = shaped start in
-    let below = known .shared-slice-known .given in
-    let un : Unsolved (a .s) flags (x .roles) left =
-    subst (λ (x : Reduced). Unsolved (a .s) flags (x .roles) left) (reduced at-eliminate)
-    (subst (λ (f : List ℕ). Unsolved (a .s) f (at-eliminate .eliminate .last .1 .1 .1 .0) left) (at-locate .locate .ensures .1)
-    (at-unsolved .unsolved .ensures)) in (
+    let below = known .shared-slice-known .given in (
       told (a .s) rows (a .due) (a .t) (a .i) x left places (h .lanes-positive)
-          (λ v. left-said (a .s) passed flags left (laneByte (a .s) places rows v) (lane-below (a .s) places rows (λ q. below q .fits) v) un (a .i)
+          (λ v.
+          left-said (a .s) passed flags left (laneByte (a .s) places rows v) (lane-below (a .s) places rows (λ q. below q .fits) v)
+          (left-by at-eliminate) (a .i)
           ∙ lane-said (a .s) passed rows (a .due) (a .t) (a .i) (λ q. below q .fits) (start .pre .2) v)
           (at-answer .answer .result) out _
           (at-answer .answer .ensures .0
@@ -131,9 +138,8 @@ write-symbol-spec =
     tie.close
     (tie.spec
     add-locate
-    (λ c κs. search needs)
-    (λ c κs. search needs)
-    unsolved-requires
+    locate-requires
+    eliminate-requires
     answer-requires
-    (λ c. search needs)
+    (λ c. c .before .before .answer .kept .1 .1 .1 .1 .1 .1 .1 .1 .0)
     returns)

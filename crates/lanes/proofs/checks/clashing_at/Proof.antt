@@ -7,7 +7,7 @@ use native.Mathlib.Omega.{arith}
 use denote.Ref.{now}
 use lib.ListN.{length, getD, take, drop}
 use Rattle.galois.proofs.ByIndex.{length-table}
-use Rattle.multiples.specs.Pairs.{Paired, weightedOf}
+use Rattle.vectors.specs.Pairs.{Paired, weightedOf}
 use Rattle.code.proofs.Shape.{Shape, shape}
 use Rattle.lanes.specs.Lanes.{laneByte, countOf}
 use Rattle.lanes.proofs.Shares.{part-byte, part-table, front-inside, front-length}

@@ -5,7 +5,7 @@ use Prim.Native.Nat.{ℕ, _+_, _/_, _≤_}
 use native.Mathlib.Omega.{arith}
 use denote.Ref.{now}
 use lib.ListN.{length, take}
-use Rattle.multiples.specs.Pairs.{Paired, weightedOf}
+use Rattle.vectors.specs.Pairs.{Paired, weightedOf}
 use Rattle.code.proofs.Shape.{Shape, shape}
 use Rattle.lanes.specs.Lanes.{countOf}
 use Rattle.lanes.proofs.Shares.{front-inside, front-length, front-table}

@@ -3,7 +3,7 @@ use borrow.Author.Needs.{needs}
 use mathlib.Core.Path.{ap, ap₂, _∙_}
 use Prim.Native.Nat.{ℕ}
 use Rattle.galois.specs.Byte.{_⊕_, _⊗_}
-use Rattle.multiples.proofs.Planes.{times-four-bits}
+use Rattle.multiples.proofs.Halves.{times-four-bits}
 use Rattle.multiples.proofs.rows.by_bits.Statement.{statement}
 use Rattle.multiples.proofs.rows.by_bits.Tie as tie
 

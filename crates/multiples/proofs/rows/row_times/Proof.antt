@@ -7,7 +7,7 @@ use Prim.Native.Nat.{ℕ, _-_, _<_, _≤_, zero-le}
 use lib.ListN.{length, getD, length-set}
 use Rattle.galois.specs.Byte.{_⊕_, _⊗_, alpha}
 use Rattle.galois.proofs.ByIndex.{is-table, filled-more}
-use Rattle.multiples.proofs.Planes.{both-halves}
+use Rattle.multiples.proofs.Halves.{both-halves}
 use Rattle.multiples.proofs.rows.row_times.Statement.{statement}
 use Rattle.multiples.proofs.rows.row_times.Tie as tie
 

@@ -17,7 +17,7 @@ use Rattle.protocol.specs.Calls.{OpenedReceiver, noSettings}
 use Rattle.protocol.specs.Lengths.{rowLen, receiverLen}
 use Rattle.protocol.proofs.ReportChain.{opened-receiver}
 use Rattle.receiver.proofs.Outcomes.{open-settings, open-length}
-use Rattle.receiver.proofs.OpenedRows.{opened-rows}
+use Rattle.ring.proofs.OpenedRows.{opened-rows}
 use Rattle.receiver.proofs.opening.open.Statement.{statement}
 use Rattle.receiver.proofs.opening.open.Tie as tie
 

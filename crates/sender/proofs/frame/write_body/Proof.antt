@@ -3,20 +3,21 @@ use borrow.Author.Needs.{needs}
 use borrow.Rule.Slice.PartMut.{mid-len}
 use mathlib.Core.Path.{_≡_, sym, ap, _∙_}
 use mathlib.Core.List.{List, _++_}
+use native.Mathlib.Nat.{le-add-right}
 use native.Mathlib.Omega.{arith}
 use Prim.Native.Nat.{ℕ, _+_, _-_, _*_, _<_, _≤_}
 use denote.Ref.{now}
 use lib.ListN.{length, take}
-use Rattle.multiples.specs.Pairs.{Wide, Paired}
-use Rattle.multiples.proofs.PairLaws.{blank-wide, blank-paired}
+use Rattle.vectors.specs.Pairs.{Wide, Paired}
+use Rattle.vectors.proofs.PairLaws.{blank-wide, blank-paired}
 use Rattle.code.specs.Settings.{kOf, nOf}
 use Rattle.code.proofs.Shape.{Shape, shape}
 use Rattle.protocol.specs.Frame.{bodyOf}
 use Rattle.protocol.specs.Lengths.{frameLen}
-use Rattle.sender.specs.Gathering.{pairsOf}
+use Rattle.parity.specs.Gathering.{pairsOf}
+use Rattle.parity.proofs.Gathered.{pairs-few}
 use Rattle.sender.proofs.Places.{body-few, message-fits, symbol-ends}
 use Rattle.sender.proofs.Bodies.{Written, written-message, written-more, written-all}
-use Rattle.sender.proofs.Gathered.{pairs-few}
 use Rattle.sender.proofs.frame.write_body.Statement.{statement}
 use Rattle.sender.proofs.frame.write_body.Tie as tie
 
@@ -134,9 +135,9 @@ write-body-spec =
     (λ c. omega (arith, within c))
     (λ c. omega (arith, within c))
     (λ c. omega (arith, within c))
-    (λ c. omega arith)
-    (λ c. omega arith)
-    (λ c. omega (arith, within c))
+    (λ c. le-add-right _ _)
+    (λ c. le-add-right _ _)
+    (λ c. within c .1)
     write-parity-requires
     (λ c. let h = shaped (sent (c .before .before .before .before .before .before .before .before)) in omega arith)
     (λ c. omega (arith, within (c .before .before .before .before .before)))

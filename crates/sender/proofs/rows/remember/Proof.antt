@@ -10,7 +10,7 @@ use lib.ListN.{length, take, drop}
 use Rattle.code.specs.Settings.{nOf}
 use Rattle.code.proofs.Shape.{Shape, shape}
 use Rattle.protocol.specs.Rows.{putRow}
-use Rattle.sender.proofs.Places.{message-few, row-ends}
+use Rattle.parity.proofs.Places.{message-few, row-ends}
 use Rattle.sender.proofs.rows.remember.Statement.{statement}
 use Rattle.sender.proofs.rows.remember.Tie as tie
 

@@ -1,5 +1,4 @@
 -- Each refusal contradicts a condition of `Shape`; past them all, the last test is the answer.
-use borrow.Author.Needs.{needs}
 use native.Mathlib.Omega.{arith}
 use Rattle.code.specs.Settings.{delayOf}
 use Rattle.code.proofs.Shape.{refused, lanes-decide}
@@ -29,4 +28,4 @@ returns-7 : tie.Need-returns-7
 returns-7 c = lanes-decide _ (omega arith) (omega arith) (omega arith) (omega arith) (omega arith) (omega arith) (omega arith)
 
 pub accepted-spec : {M : Type 1} → statement M
-accepted-spec = tie.close (tie.spec returns returns-2 (λ c κs. search needs) returns-3 (λ c κs. search needs) returns-4 returns-5 returns-6 returns-7)
+accepted-spec = tie.close (tie.spec returns returns-2 (λ c κs. tt) returns-3 (λ c κs. tt) returns-4 returns-5 returns-6 returns-7)

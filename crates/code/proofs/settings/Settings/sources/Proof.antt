@@ -14,4 +14,4 @@ unfolding kOf
 returns-2 c = omega arith
 
 pub sources-spec : {M : Type 1} → statement M
-sources-spec = tie.close (tie.spec (λ c κs. search needs) returns (λ c. search needs) (λ c. search needs) returns-2)
+sources-spec = tie.close (tie.spec (λ c κs. tt) returns (λ c. search needs) (λ c. search needs) returns-2)

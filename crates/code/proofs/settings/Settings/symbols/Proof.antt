@@ -14,4 +14,4 @@ unfolding nOf
 returns c = omega arith
 
 pub symbols-spec : {M : Type 1} → statement M
-symbols-spec = tie.close (tie.spec (λ c κs. search needs) (λ c. search needs) add-result returns)
+symbols-spec = tie.close (tie.spec (λ c κs. tt) (λ c. search needs) add-result returns)

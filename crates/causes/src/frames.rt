@@ -1,0 +1,57 @@
+// The causes of a frame report's refusal.
+use code::Settings;
+use protocol::Answer;
+use protocol::Cause;
+use protocol::Receiver;
+use protocol::Slot;
+use protocol::agrees;
+use protocol::frame_len;
+use protocol::header_bytes;
+use protocol::message_len;
+use protocol::receiver_len;
+ghost use mathlib.Core.Bool.{_&&_};
+ghost use mathlib.Core.Path.{_≡_};
+ghost use lib.Dec.{eqb};
+ghost use Rattle.protocol.specs.Lengths.{messageLen, frameLen, receiverLen};
+ghost use Rattle.protocol.specs.Causes.{frameCause};
+ghost use Rattle.causes.specs.Findings.{foundIn};
+
+// Whether the rows, the frame and the message buffer have their lengths.
+fn exact_frame(s: Settings, rows: usize, frame: usize, message: usize) -> bool
+    ensures { λ r. ⌜ r ≡ (eqb rows (receiverLen s) && eqb frame (frameLen s) && eqb message (messageLen s)) ⌝ }
+{
+    if rows != receiver_len(s) {
+        return false;
+    }
+    if frame != frame_len(s) {
+        return false;
+    }
+    message == message_len(s)
+}
+
+// The first cause that holds for the report of a frame, if any.
+pub fn frame_cause(x: Receiver, rows: &[u8], frame: &[u8], message: &[u8]) -> Answer
+    ensures { λ r. ⌜ foundIn r ≡ frameCause x (now (rows .entry)) (now (frame .entry)) (now (message .entry)) ⌝ }
+{
+    let s = x.settings;
+    if !s.accepted() {
+        return Answer::Refused(Cause::BadSettings);
+    }
+    if !exact_frame(s, rows.len(), frame.len(), message.len()) {
+        return Answer::Refused(Cause::BadLength);
+    }
+    if Slot::LAST.0 < x.due {
+        return Answer::Refused(Cause::PastLastSlot);
+    }
+    let head = header_bytes(s, x.due);
+    if !agrees(frame, head, 0, 5) {
+        return Answer::Refused(Cause::OtherMark);
+    }
+    if !agrees(frame, head, 5, 10) {
+        return Answer::Refused(Cause::OtherSettings);
+    }
+    if !agrees(frame, head, 10, 14) {
+        return Answer::Refused(Cause::OtherSlot);
+    }
+    Answer::Accepted
+}

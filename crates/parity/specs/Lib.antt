@@ -1,0 +1,2 @@
+-- The source symbols that a parity symbol is the sum of.
+pub mod Gathering

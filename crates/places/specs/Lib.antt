@@ -1,0 +1,2 @@
+-- Where the symbols of a codeword stand, and which of them are known.
+pub mod Places

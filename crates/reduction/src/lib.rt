@@ -1,0 +1,5 @@
+// Elimination in place, over the known parity positions of a matrix.
+mod columns;
+
+pub use columns::eliminate;
+pub use columns::first_role;

@@ -1,2 +1,0 @@
--- What the contracts of the sender's functions cite.
-pub mod Gathering

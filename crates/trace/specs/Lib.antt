@@ -1,0 +1,2 @@
+-- The calls in cut buffers.
+pub mod Cuts

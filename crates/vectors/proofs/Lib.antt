@@ -1,0 +1,3 @@
+-- The laws of pairs and of weighted sums.
+pub mod PairLaws
+pub mod Planes

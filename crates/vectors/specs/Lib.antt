@@ -1,0 +1,3 @@
+-- What the contracts of the weighted sums cite.
+pub mod Pairs
+pub mod Halves

@@ -1,0 +1,145 @@
+// Weighted sums of the vectors of a table of pairs. The coefficients are taken bit by bit, so that a sum stays in registers; the halves of
+// the two coefficients of a pair stand in one byte, so that two bits of it pick one entry of the pair.
+use multiples::alpha_times;
+use multiples::doubled;
+ghost use mathlib.Core.Path.{_≡_};
+ghost use mathlib.Core.List.{[]};
+ghost use Prim.Native.Nat.{ℕ, _*_, _/_, _%_, _^_, _<_, _≤_};
+ghost use lib.ListN.{length, getD};
+ghost use Rattle.galois.specs.Byte.{_⊕_, _⊗_};
+ghost use Rattle.galois.specs.Sum.{sum};
+ghost use Rattle.galois.specs.Table.{table};
+ghost use Rattle.vectors.specs.Pairs.{Paired, vectorOf, weightedOf};
+ghost use Rattle.vectors.specs.Halves.{halfOf, halvesSum, Under};
+
+// z times each lane.
+fn double(sum: &mut [u8; 64])
+    requires { ⌜ length (now sum) ≡ 64 ⌝ }
+    ensures { λ _. ⌜ now (sum .exit) ≡ table 64 (λ v. 2 ⊗ getD (now (sum .entry)) v 0) ⌝ }
+{
+    let mut v: usize = 0;
+    while v < 64 {
+        sum[v] = doubled(sum[v]);
+        v += 1;
+    }
+}
+
+// The sum of two bytes, and the bound of the second.
+fn plus(x: u8, y: u8) -> u8
+    ensures { λ r. ⌜ (r ≡ x ⊕ y) × (y < 256) ⌝ }
+{
+    x ^ y
+}
+
+// Adds a vector, lane by lane; its lanes are bytes.
+fn add(sum: &mut [u8; 64], vector: &[u8; 64])
+    requires { ⌜ length (now sum) ≡ 64 ⌝ }
+    ensures { λ _. ⌜ (now (sum .exit) ≡ table 64 (λ v. getD (now (sum .entry)) v 0 ⊕ getD (now (vector .entry)) v 0)) × ((v : ℕ) → v < 64 → getD (now (vector .entry)) v 0 < 256) ⌝ }
+{
+    let mut v: usize = 0;
+    while v < 64 {
+        sum[v] = plus(sum[v], vector[v]);
+        v += 1;
+    }
+}
+
+// The low halves of the coefficients in column q, two in a byte: that of vector 2j below that of vector 2j + 1.
+fn low_halves(rows: &[[u8; 16]; 16], q: usize, count: usize) -> [u8; 8]
+    requires { ⌜ (q < 16) × (count ≤ 8) ⌝ }
+    ensures { λ r. ⌜ ((i : ℕ) → i < count * 2 → halfOf r i ≡ getD (getD (now (rows .entry)) i []) q 0 % 16) ⌝ }
+{
+    let mut out = [0u8; 8];
+    let mut j: usize = 0;
+    while j < count {
+        out[j] = rows[2 * j][q] % 16 + rows[2 * j + 1][q] % 16 * 16;
+        j += 1;
+    }
+    out
+}
+
+// The high halves of the coefficients in column q, in the same order.
+fn high_halves(rows: &[[u8; 16]; 16], q: usize, count: usize) -> [u8; 8]
+    requires { ⌜ (q < 16) × (count ≤ 8) ⌝ }
+    ensures { λ r. ⌜ ((i : ℕ) → i < count * 2 → halfOf r i ≡ getD (getD (now (rows .entry)) i []) q 0 / 16 % 16) ⌝ }
+{
+    let mut out = [0u8; 8];
+    let mut j: usize = 0;
+    while j < count {
+        out[j] = rows[2 * j][q] / 16 % 16 + rows[2 * j + 1][q] / 16 % 16 * 16;
+        j += 1;
+    }
+    out
+}
+
+// Adds the vectors whose half has bit t.
+fn add_plane(total: &mut [u8; 64], halves: &[u8; 8], t: u32, pairs: &[[u8; 64]; 32], count: usize)
+    requires { ⌜ (length (now total) ≡ 64) × (t < 4) × (count ≤ 8) × Paired count (now pairs) ⌝ }
+    ensures { λ _. ⌜ now (total .exit) ≡ table 64 (λ v. getD (now (total .entry)) v 0 ⊕ sum (count * 2) (λ i. (halfOf (now (halves .entry)) i / 2 ^ t % 2) ⊗ getD (vectorOf (now (pairs .entry)) i) v 0)) ⌝ }
+{
+    let mut j: usize = 0;
+    while j < count {
+        add(total, &pairs[2 * j + ((halves[j] >> t) & 17) as usize]);
+        j += 1;
+    }
+}
+
+// The sum of the vectors, each by its half.
+fn by_nibble(halves: &[u8; 8], pairs: &[[u8; 64]; 32], count: usize) -> [u8; 64]
+    requires { ⌜ (count ≤ 8) × Paired count (now pairs) ⌝ }
+    ensures { λ r. ⌜ r ≡ halvesSum (now (halves .entry)) (now (pairs .entry)) count ⌝ }
+{
+    let mut total = [0u8; 64];
+    add_plane(&mut total, halves, 3, pairs, count);
+    double(&mut total);
+    add_plane(&mut total, halves, 2, pairs, count);
+    double(&mut total);
+    add_plane(&mut total, halves, 1, pairs, count);
+    double(&mut total);
+    add_plane(&mut total, halves, 0, pairs, count);
+    total
+}
+
+// The bits that some byte of halves has: no half of such a byte is above theirs.
+fn bits_used(halves: &[u8; 8], count: usize) -> u8
+    requires { ⌜ count ≤ 8 ⌝ }
+    ensures { λ r. ⌜ ((j : ℕ) → j < count → Under (getD (now (halves .entry)) j 0) r) ⌝ }
+{
+    let mut bits: u8 = 0;
+    let mut j: usize = 0;
+    while j < count {
+        bits = bits | halves[j];
+        j += 1;
+    }
+    bits
+}
+
+// The same sum as by_nibble: one plane where no half is above 1.
+fn by_upper(halves: &[u8; 8], pairs: &[[u8; 64]; 32], count: usize) -> [u8; 64]
+    requires { ⌜ (count ≤ 8) × Paired count (now pairs) ⌝ }
+    ensures { λ r. ⌜ r ≡ halvesSum (now (halves .entry)) (now (pairs .entry)) count ⌝ }
+{
+    if bits_used(halves, count) & 0xee == 0 {
+        let mut total = [0u8; 64];
+        add_plane(&mut total, halves, 0, pairs, count);
+        return total;
+    }
+    by_nibble(halves, pairs, count)
+}
+
+// The sum of the vectors, each by its coefficient in column q.
+pub fn weighted(rows: &[[u8; 16]; 16], q: usize, pairs: &[[u8; 64]; 32], count: usize) -> [u8; 64]
+    requires { ⌜ (q < 16) × (count ≤ 8) × Paired count (now pairs) ⌝ }
+    ensures { λ r. ⌜ r ≡ weightedOf (now (rows .entry)) q (now (pairs .entry)) count ⌝ }
+{
+    let upper = high_halves(rows, q, count);
+    let high = by_upper(&upper, pairs, count);
+    let lower = low_halves(rows, q, count);
+    let low = by_nibble(&lower, pairs, count);
+    let mut out = [0u8; 64];
+    let mut v: usize = 0;
+    while v < 64 {
+        out[v] = low[v] ^ alpha_times(high[v]);
+        v += 1;
+    }
+    out
+}
