@@ -1,5 +1,5 @@
 -- Elimination over the flags of the parity positions, from the roles at the start, is that over all flags. What is left of them are all
--- flags, but that some are 0 at positions of pivots.
+-- flags, but that some are 0 at positions of pivots; no source has one.
 use mathlib.Core.Path.{_≡_, sym, ap, ap₂, _∙_, subst, subst⁻¹}
 use mathlib.Core.Bool.{_&&_}
 use mathlib.Core.List.{List}
@@ -15,10 +15,11 @@ use Rattle.code.specs.Settings.{accepted, kOf, nOf}
 use Rattle.code.specs.Word.{systematicOf}
 use Rattle.code.proofs.Shape.{Shape, shape}
 use Rattle.elimination.specs.Elimination.{Reduced, firstRoles, started, eliminated, knownIn, reducedFrom, leftFrom, Solved}
-use Rattle.elimination.proofs.LeftFlags.{source-solved, left-or-pivot}
+use Rattle.elimination.proofs.LeftFlags.{source-solved, left-or-pivot, left-source}
 use Rattle.elimination.proofs.Reductions.{reduced-accepted, same-columns}
 use Rattle.elimination.proofs.Roles.{first-sixteen}
 use Rattle.elimination.proofs.Terms.{both}
+use Rattle.lanes.specs.Lanes.{ParityOnly}
 use Rattle.places.specs.Places.{parityFlags}
 use Rattle.places.proofs.Flags.{parity-length, at-parity, at-source}
 
@@ -76,6 +77,13 @@ module _ (s : Settings) (passed : T (accepted s)) (flags : List ℕ) where
 
     pub located-eliminated : reducedFrom s (both m roles) parity ≡ eliminated s (knownIn s flags)
     located-eliminated = ap₂ (reducedFrom s) begun is-parity ∙ parity-eliminated
+
+    -- no source has a flag
+    pub located-only : ParityOnly s (leftFrom s (both m roles) parity)
+    unfolding ParityOnly
+    located-only q source =
+        left-source s passed (both m roles) parity q source ∙ ap (λ (l : List ℕ). getD l q 0) is-parity
+        ∙ at-source s (shape s passed) flags q source
 
     pub located-left : ((q : ℕ) → q < kOf s → (getD flags q 0 ≡ 0) ⊎ (getD flags q 0 ≡ 1))
         → Unsolved s flags (eliminated s (knownIn s flags) .roles) (leftFrom s (both m roles) parity)

@@ -8,6 +8,8 @@ ghost use mathlib.Core.Path.{_≡_};
 ghost use Prim.Native.Nat.{_<_};
 ghost use lib.Dec.{ltb};
 ghost use lib.ListN.{length};
+ghost use Rattle.galois.specs.Byte.{reciprocal};
+ghost use Rattle.galois.specs.Table.{table};
 ghost use Rattle.code.specs.Settings.{kOf};
 ghost use Rattle.code.specs.Word.{systematicOf};
 ghost use Rattle.lanes.specs.Lanes.{Clear};
@@ -35,10 +37,11 @@ fn write_symbol(
     t: usize,
     i: usize,
     matrix: &[[u8; 16]; 16],
+    reciprocals: &[u8; 256],
     pairs: &mut [[u8; 64]; 32],
     out: &mut [u8],
 ) -> u8
-    requires { ⌜ Ready s (now rows) t × (due < 4294967296) × (i < kOf s) × (now matrix ≡ systematicOf s) × Clear (now pairs) × (length (now out) ≡ s .lanes) ⌝ }
+    requires { ⌜ Ready s (now rows) t × (due < 4294967296) × (i < kOf s) × (now matrix ≡ systematicOf s) × Clear (now pairs) × (length (now out) ≡ s .lanes) × (now reciprocals ≡ table 256 reciprocal) ⌝ }
     ensures { λ r. ⌜ Told s (now (rows .entry)) due t i r (now (out .exit)) × Clear (now (pairs .exit)) ⌝ }
 {
     let mut places = [0usize; 16];
@@ -46,7 +49,7 @@ fn write_symbol(
     let mut roles = [16u8; 16];
     locate(s, rows, due + i, t, i, &mut places, &mut flags, &mut roles);
     let mut reduced = *matrix;
-    reduction::eliminate(s, &mut reduced, &mut flags, &mut roles);
+    reduction::eliminate(s, reciprocals, &mut reduced, &mut flags, &mut roles);
     lanes::answer(s, &reduced, &roles, &flags, &places, rows, i, pairs, out)
 }
 
@@ -57,6 +60,7 @@ pub(crate) fn decided(s: Settings, rows: &[u8], due: usize, t: usize, message: &
     ensures { λ r. ⌜ (r ≡ verdict s (now (rows .entry)) due t) × (now (message .exit) ≡ bufferOf s (now (rows .entry)) due t r) ⌝ }
 {
     let matrix = generator::systematic(s);
+    let reciprocals = galois::reciprocals();
     let mut pairs = [[0u8; 64]; 32];
     let lanes = s.lanes as usize;
     let mut worst: u8 = 0;
@@ -70,6 +74,7 @@ pub(crate) fn decided(s: Settings, rows: &[u8], due: usize, t: usize, message: &
             t,
             i,
             &matrix,
+            &reciprocals,
             &mut pairs,
             &mut message[start..start + lanes],
         );

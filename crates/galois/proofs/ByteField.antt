@@ -12,6 +12,8 @@ use lib.ListN.{length, getD}
 use Rattle.galois.specs.Bounded.{every}
 use Rattle.galois.specs.Byte.{_⊕_, _⊗_, high, low, byte, eight, first, reciprocal}
 use Rattle.galois.specs.Narrow.{narrow, _⊞_, timesZ, timesBits, _⊠_, narrowReciprocals, narrowReciprocal}
+use Rattle.galois.specs.Table.{table}
+use Rattle.galois.proofs.ByIndex.{getD-table, is-table}
 use Rattle.galois.proofs.Cases.{and-left, and-right, equal-but-zero, where-passed}
 use Rattle.galois.proofs.Field.{Field, reciprocal-unique}
 use Rattle.galois.proofs.ByteProduct.{times-below, times-comm, times-assoc, zero-times, one-times, distributes, high-below, low-below, high-low, low-low, eight-high}
@@ -143,12 +145,17 @@ entry-inverts (y ∷ rest) x zero z rule h e =
 entry-inverts (y ∷ rest) x (suc i) z rule h e =
     entry-inverts rest (suc x) i z (and-right (inverts x y) (invertsFrom (suc x) rest) rule) (le-of-suc-le-suc h) (omega arith)
 
--- the rule of the table: where that one test over it passes, an entry is the reciprocal
-pub table-reciprocal : (x : ℕ) → x < 256 → (t : List ℕ) → getD t x 0 ≡ cond (reciprocalTable t) (reciprocal x) (getD t x 0)
+-- a list that passes that one test is the table of the reciprocals
+pub reciprocals-listed : (t : List ℕ) → T (reciprocalTable t) → t ≡ table 256 reciprocal
 unfolding reciprocalTable
+reciprocals-listed t rule =
+    let all : length t ≡ 256 = eqb→eq (length t) 256 (and-left (eqb (length t) 256) (invertsFrom 0 t) rule) in
+    is-table 256 reciprocal 0 t all
+    (λ x h. entry-reciprocal x (getD t x 0) h
+    (entry-inverts t 0 x x (and-right (eqb (length t) 256) (invertsFrom 0 t) rule) (omega arith) (omega arith)))
+
+-- the rule of the table: where the test passes, an entry is the reciprocal
+pub table-reciprocal : (x : ℕ) → x < 256 → (t : List ℕ) → getD t x 0 ≡ cond (reciprocalTable t) (reciprocal x) (getD t x 0)
 table-reciprocal x h t =
     where-passed (reciprocalTable t) (getD t x 0) (reciprocal x)
-    (λ rule.
-    let all : length t ≡ 256 = eqb→eq (length t) 256 (and-left (eqb (length t) 256) (invertsFrom 0 t) rule) in
-    entry-reciprocal x (getD t x 0) h
-    (entry-inverts t 0 x x (and-right (eqb (length t) 256) (invertsFrom 0 t) rule) (omega arith) (omega arith)))
+    (λ rule. ap (λ (l : List ℕ). getD l x 0) (reciprocals-listed t rule) ∙ getD-table 256 reciprocal x 0 h)

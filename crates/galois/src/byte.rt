@@ -3,6 +3,7 @@ use crate::narrow::Gf16;
 use crate::tables::RECIPROCALS;
 ghost use mathlib.Core.Path.{_≡_};
 ghost use Rattle.galois.specs.Byte.{_⊕_, _⊗_, reciprocal, quotient, high, low, byte, widen};
+ghost use Rattle.galois.specs.Table.{table};
 
 // A byte.
 pub struct Gf256(pub u8);
@@ -59,4 +60,11 @@ impl Gf256 {
     {
         Gf256(h.widen().0 * 16 + l.widen().0)
     }
+}
+
+// The reciprocal of every byte.
+pub fn reciprocals() -> [u8; 256]
+    ensures { λ r. ⌜ r ≡ table 256 reciprocal ⌝ }
+{
+    RECIPROCALS
 }

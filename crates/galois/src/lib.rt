@@ -4,4 +4,5 @@ mod narrow;
 mod tables;
 
 pub use byte::Gf256;
+pub use byte::reciprocals;
 pub use narrow::Gf16;

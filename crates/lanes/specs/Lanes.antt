@@ -18,6 +18,10 @@ pub record Held (s : Settings) (places bytes : List ℕ) : Type 0 where
   pub settings : T (accepted s)
   pub inside : (p : ℕ) → p < nOf s → getD places p 0 + s .lanes ≤ length bytes
 
+-- no source has a flag
+unfoldable pub ParityOnly : Settings → List ℕ → Type 0
+ParityOnly s flags = (q : ℕ) → q < kOf s → getD flags q 0 ≡ 0
+
 -- the bytes of lane v by position, and 0 outside the word
 unfoldable pub laneByte : Settings → List ℕ → List ℕ → ℕ → ℕ → ℕ
 laneByte s places bytes v p = cond (ltb p (nOf s)) (getD bytes (getD places p 0 + v) 0) 0

@@ -10,7 +10,7 @@ ghost use Rattle.galois.specs.Bounded.{any};
 ghost use Rattle.vectors.specs.Pairs.{Paired};
 ghost use Rattle.code.specs.Settings.{kOf, nOf};
 ghost use Rattle.elimination.specs.Elimination.{differs};
-ghost use Rattle.lanes.specs.Lanes.{Held, countOf, sumClash, sumsClash};
+ghost use Rattle.lanes.specs.Lanes.{Held, ParityOnly, countOf, sumClash, sumsClash};
 
 // Whether two runs of bytes differ at some place.
 fn unequal(a: &[u8], b: &[u8]) -> bool
@@ -44,7 +44,7 @@ fn clashing_at(
     unequal(&sum[..lanes], &bytes[start..start + lanes])
 }
 
-// Whether some lane clashes at a known position.
+// Whether some lane clashes at a known position, where no source has a flag.
 pub(crate) fn clashing(
     s: Settings,
     rows: &[[u8; 16]; 16],
@@ -53,10 +53,10 @@ pub(crate) fn clashing(
     bytes: &[u8],
     pairs: &[[u8; 64]; 32],
 ) -> bool
-    requires { ⌜ Held s (now places) (now bytes) × Paired (countOf s) (now pairs) ⌝ }
+    requires { ⌜ Held s (now places) (now bytes) × Paired (countOf s) (now pairs) × ParityOnly s (now flags) ⌝ }
     ensures { λ r. ⌜ r ≡ sumsClash s (now (rows .entry)) (now (pairs .entry)) (now (flags .entry)) (now (places .entry)) (now (bytes .entry)) ⌝ }
 {
-    let mut q: usize = 0;
+    let mut q = s.sources();
     while q < s.symbols() {
         if flags[q] == 1 {
             if clashing_at(s, rows, places, bytes, pairs, q) {

@@ -4,10 +4,13 @@ mod random;
 mod word;
 
 use code::Settings;
+ghost use mathlib.Core.Bool.{cond};
 ghost use mathlib.Core.Path.{_≡_};
 ghost use Prim.Native.Nat.{_<_};
-ghost use lib.Dec.{T};
-ghost use Rattle.code.specs.Settings.{accepted};
+ghost use lib.Dec.{T, ltb};
+ghost use lib.ListN.{getD};
+ghost use Rattle.galois.specs.Table.{table};
+ghost use Rattle.code.specs.Settings.{accepted, kOf, nOf};
 ghost use Rattle.elimination.specs.Elimination.{firstRoles, knownIn};
 
 fn print_field(n: u64) {
@@ -39,31 +42,49 @@ fn first_roles(s: Settings, flags: &[u8; 16]) -> [u8; 16]
 {
     let mut roles = [16u8; 16];
     let mut p: usize = 0;
-    while p < 16 {
-        roles[p] = reduction::first_role(s, flags[p], p);
+    while p < s.sources() {
+        if flags[p] == 1 {
+            roles[p] = p as u8;
+        }
         p += 1;
     }
     roles
 }
 
-// One pattern of loss. Elimination leaves the flags that are to be checked.
+// The flags of the parity positions, and 0 at all others.
+fn parities(s: Settings, flags: &[u8; 16]) -> [u8; 16]
+    requires { ⌜ T (accepted s) ⌝ }
+    ensures { λ r. ⌜ r ≡ table 16 (λ q. cond (ltb q (nOf s)) (cond (ltb q (kOf s)) 0 (getD (now (flags .entry)) q 0)) 0) ⌝ }
+{
+    let mut left = [0u8; 16];
+    let mut q = s.sources();
+    while q < s.symbols() {
+        left[q] = flags[q];
+        q += 1;
+    }
+    left
+}
+
+// One pattern of loss. Of the flags of the parity positions elimination leaves those that are to be checked.
 fn pattern(s: Settings, j: u8, x: &mut u64)
     requires { ⌜ T (accepted s) × (s .lanes ≡ 1) ⌝ }
 {
     let i = random::below(x, s.sources());
-    let mut flags = random::flags(x);
+    let flags = random::flags(x);
     let bytes = word::arrived(s, j, x);
     let places = [0usize, 1, 2, 3, 4, 5, 6, 7, 8, 9, 10, 11, 12, 13, 14, 15];
     let mut roles = first_roles(s, &flags);
+    let mut left = parities(s, &flags);
     let mut rows = generator::systematic(s);
-    reduction::eliminate(s, &mut rows, &mut flags, &mut roles);
+    let reciprocals = galois::reciprocals();
+    reduction::eliminate(s, &reciprocals, &mut rows, &mut left, &mut roles);
     let mut pairs = [[0u8; 64]; 32];
     let mut symbol = [0u8; 1];
     let mark = lanes::answer(
         s,
         &rows,
         &roles,
-        &flags,
+        &left,
         &places,
         &bytes,
         i,

@@ -3,7 +3,7 @@ use mathlib.Core.Path.{_≡_, refl, sym, ap, _∙_}
 use mathlib.Core.Bool.{cond}
 use mathlib.Core.List.{List}
 use mathlib.Core.Logic.{⊎-elim}
-use Prim.Native.Nat.{ℕ, _+_, _≤_, _<_, zero-le}
+use Prim.Native.Nat.{ℕ, _+_, _≤_, _<_}
 use native.Mathlib.Omega.{arith}
 use borrow.Author.Tests.{lt-ltb, le-ltb}
 use lib.Dec.{ltb}
@@ -23,11 +23,13 @@ up-below d p f q h = rw (lt-ltb q p h)
 up-past : (d p : ℕ) (f : ℕ → ℕ) (q : ℕ) → p ≤ q → upTo d p f q ≡ d
 up-past d p f q h = rw (le-ltb q p h)
 
--- nothing filled yet
-pub filled-none : (d : ℕ) (f : ℕ → ℕ) → replicate 16 d ≡ table 16 (upTo d 0 f)
-filled-none d f =
-    is-table 16 (upTo d 0 f) 0 (replicate 16 d) refl
-    (λ q h. getD-replicate 16 q d 0 h ∙ sym (up-past d 0 f q zero-le))
+-- nothing filled yet, where f is d below p
+pub filled-none : (d p : ℕ) (f : ℕ → ℕ) → ((q : ℕ) → q < p → f q ≡ d) → replicate 16 d ≡ table 16 (upTo d p f)
+filled-none d p f before =
+    is-table 16 (upTo d p f) 0 (replicate 16 d) refl
+    (λ q h.
+    getD-replicate 16 q d 0 h
+    ∙ ⊎-elim (λ past. sym (up-past d p f q past)) (λ below. sym (up-below d p f q below ∙ before q below)) (le-or-lt p q))
 
 -- filled up to p, where f is d from p on
 pub filled-all : (d p : ℕ) (f : ℕ → ℕ) → ((q : ℕ) → p ≤ q → f q ≡ d) → table 16 (upTo d p f) ≡ table 16 f
@@ -35,6 +37,18 @@ filled-all d p f rest =
     table-equal 16 (upTo d p f) f
     (λ q h.
     ⊎-elim (λ past. up-past d p f q past ∙ sym (rest q past)) (λ below. up-below d p f q below) (le-or-lt p q))
+
+-- nothing stored at p, where f is d
+pub filled-kept : (d p : ℕ) (f : ℕ → ℕ) → f p ≡ d → table 16 (upTo d p f) ≡ table 16 (upTo d (p + 1) f)
+filled-kept d p f is =
+    table-equal 16 (upTo d p f) (upTo d (p + 1) f)
+    (λ q h.
+    ⊎-elim
+    (λ from. up-past d p f q from
+    ∙ ⊎-elim (λ past. sym (up-past d (p + 1) f q past))
+    (λ here. sym (up-below d (p + 1) f q here ∙ ap f (omega arith) ∙ is)) (le-or-lt (p + 1) q))
+    (λ below. up-below d p f q below ∙ sym (up-below d (p + 1) f q (omega arith)))
+    (le-or-lt p q))
 
 -- f p stored at p
 pub filled-next : (d p : ℕ) (f : ℕ → ℕ) (l : List ℕ) (a : ℕ) → p < 16 → l ≡ table 16 (upTo d p f) → a ≡ f p

@@ -14,7 +14,7 @@ use Rattle.code.specs.Settings.{delayOf, kOf, nOf}
 use Rattle.code.proofs.Shape.{Shape}
 use Rattle.protocol.specs.Lengths.{bodyLen, rowLen, rowCount, receiverLen}
 use Rattle.protocol.specs.Verdict.{rowAt}
-use Rattle.places.specs.Places.{placesOf}
+use Rattle.places.specs.Places.{placesTo, placesOf}
 use Rattle.places.proofs.Filled.{upTo, up-below}
 
 pub body-few : (s : Settings) → Shape s → nOf s * s .lanes ≤ 1024
@@ -82,13 +82,17 @@ module _ (s : Settings) (h : Shape s) (t i p : ℕ) where
   row-at-few = row-few (t + p + (kOf s + delayOf s) - i) (kOf s + delayOf s) (1 + nOf s * s .lanes) (omega arith) (omega arith)
       (omega (arith, body-few s h))
 
+-- where the symbol of position p stands
+abbrev pub placeOf : Settings → ℕ → ℕ → ℕ → ℕ
+placeOf s t i p = rowAt s t i p + (1 + p * s .lanes)
+
 -- the places of the word's positions
 module _ (s : Settings) (h : Shape s) (t i p : ℕ) (below : p < nOf s) where
-  pub place-at : getD (placesOf s t i) p 0 ≡ rowAt s t i p + (1 + p * s .lanes)
-  unfolding placesOf
+  pub place-at : getD (placesOf s t i) p 0 ≡ placeOf s t i p
+  unfolding placesOf placesTo
   place-at =
-      let place : ℕ → ℕ = λ p. rowAt s t i p + (1 + p * s .lanes) in
-      getD-table 16 (upTo 0 (nOf s) place) p 0 (omega (arith, h .symbols-few)) ∙ up-below 0 (nOf s) place p below
+      getD-table 16 (upTo 0 (nOf s) (placeOf s t i)) p 0 (omega (arith, h .symbols-few))
+      ∙ up-below 0 (nOf s) (placeOf s t i) p below
 
   pub place-inside : getD (placesOf s t i) p 0 + s .lanes ≤ receiverLen s
   place-inside = omega (arith, place-at, symbol-inside s h t i p below)

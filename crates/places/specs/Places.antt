@@ -17,9 +17,13 @@ pub record Ready (s : Settings) (rows : List ℕ) (t : ℕ) : Type 0 where
   pub rows-exact : length rows ≡ receiverLen s
   pub slot-fits : t < 4294967296
 
--- where the symbol of each position of the codewords that start at slot t - i stands, and 0 outside the word
+-- where the symbols of the positions below m of the codewords that start at slot t - i stand, and 0 from m on
+unfoldable pub placesTo : Settings → ℕ → ℕ → ℕ → List ℕ
+placesTo s t i m = table 16 (λ p. cond (ltb p m) (rowAt s t i p + (1 + p * s .lanes)) 0)
+
+-- those of all positions of the word
 unfoldable pub placesOf : Settings → ℕ → ℕ → List ℕ
-placesOf s t i = table 16 (λ p. cond (ltb p (nOf s)) (rowAt s t i p + (1 + p * s .lanes)) 0)
+placesOf s t i = placesTo s t i (nOf s)
 
 -- 1 if a slot is below end and its row begins with 1, else 0
 unfoldable pub knownFlag : List ℕ → ℕ → ℕ → ℕ → ℕ

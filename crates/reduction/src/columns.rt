@@ -1,18 +1,15 @@
 // Elimination in place, over the known positions of a systematic form: the known sources are pivots from the start, then each
 // known parity position takes one more. It is the same for every lane.
 use code::Settings;
-use galois::Gf256;
 use multiples::quarters;
 use multiples::row_by;
 use multiples::row_times;
-ghost use mathlib.Core.Bool.{cond, _&&_};
 ghost use mathlib.Core.Path.{_≡_};
 ghost use Prim.Native.Nat.{_≤_, _<_};
-ghost use lib.Dec.{eqb, ltb};
+ghost use lib.Dec.{eqb};
 ghost use lib.ListN.{length, getD};
-ghost use Rattle.galois.specs.Byte.{quotient};
+ghost use Rattle.galois.specs.Byte.{quotient, reciprocal};
 ghost use Rattle.galois.specs.Table.{table};
-ghost use Rattle.code.specs.Settings.{kOf};
 ghost use Rattle.elimination.specs.Elimination.{pivotFrom, cleared, columnStep, reducedFrom, leftFlag, leftFrom};
 
 // The first row below k that is free and not 0 at position p, or 16.
@@ -33,22 +30,22 @@ fn pivot_row(rows: &[[u8; 16]], roles: &[u8; 16], p: usize, k: usize) -> usize
 }
 
 // A row scaled to 1 at position p; one that is 1 there stays as it is.
-fn scaled(row: [u8; 16], p: usize) -> [u8; 16]
-    requires { ⌜ p < 16 ⌝ }
+fn scaled(row: [u8; 16], p: usize, reciprocals: &[u8; 256]) -> [u8; 16]
+    requires { ⌜ (p < 16) × (now reciprocals ≡ table 256 reciprocal) ⌝ }
     ensures { λ r. ⌜ r ≡ table 16 (λ j. quotient (getD row j 0) (getD row p 0)) ⌝ }
 {
     if row[p] == 1 {
         return row;
     }
-    row_times(row, Gf256(row[p]).reciprocal().0)
+    row_times(row, reciprocals[row[p] as usize])
 }
 
 // Row r is scaled to 1 at position p, which is cleared from every other of the first k rows.
-fn clear_column(rows: &mut [[u8; 16]; 16], r: usize, p: usize, k: usize)
-    requires { ⌜ (r < k) × (p < 16) × (k ≤ 16) × (length (now rows) ≡ 16) ⌝ }
+fn clear_column(rows: &mut [[u8; 16]; 16], r: usize, p: usize, k: usize, reciprocals: &[u8; 256])
+    requires { ⌜ (r < k) × (p < 16) × (k ≤ 16) × (length (now rows) ≡ 16) × (now reciprocals ≡ table 256 reciprocal) ⌝ }
     ensures { λ _. ⌜ now (rows .exit) ≡ cleared k (now (rows .entry)) r p ⌝ }
 {
-    let pivot = scaled(rows[r], p);
+    let pivot = scaled(rows[r], p, reciprocals);
     let parts = quarters(pivot);
     let mut q: usize = 0;
     while q < k {
@@ -59,8 +56,15 @@ fn clear_column(rows: &mut [[u8; 16]; 16], r: usize, p: usize, k: usize)
 }
 
 // One position: its pivot, if it is known and some row can be one. Returned is what is left of its flag: 0 if it has become a pivot.
-fn column_step(rows: &mut [[u8; 16]; 16], roles: &mut [u8; 16], flag: u8, p: usize, k: usize) -> u8
-    requires { ⌜ (p < 16) × (k ≤ 16) × (length (now roles) ≡ 16) ⌝ }
+fn column_step(
+    rows: &mut [[u8; 16]; 16],
+    roles: &mut [u8; 16],
+    flag: u8,
+    p: usize,
+    k: usize,
+    reciprocals: &[u8; 256],
+) -> u8
+    requires { ⌜ (p < 16) × (k ≤ 16) × (length (now roles) ≡ 16) × (now reciprocals ≡ table 256 reciprocal) ⌝ }
     ensures { λ r. ⌜ (record { rows = now (rows .exit); roles = now (roles .exit) } ≡ columnStep k (eqb flag 1) p (record { rows = now (rows .entry); roles = now (roles .entry) })) × (r ≡ leftFlag k (eqb flag 1) p (record { rows = now (rows .entry); roles = now (roles .entry) }) flag) ⌝ }
 {
     if flag != 1 {
@@ -70,28 +74,21 @@ fn column_step(rows: &mut [[u8; 16]; 16], roles: &mut [u8; 16], flag: u8, p: usi
     if 15 < r {
         return flag;
     }
-    clear_column(rows, r, p, k);
+    clear_column(rows, r, p, k, reciprocals);
     roles[r] = p as u8;
     0
 }
 
-// The role of row p at the start: a known source is the pivot of its own row.
-pub fn first_role(s: Settings, flag: u8, p: usize) -> u8
-    requires { ⌜ p < 16 ⌝ }
-    ensures { λ r. ⌜ r ≡ cond (ltb p (kOf s) && eqb flag 1) p 16 ⌝ }
-{
-    if flag == 1 {
-        if p < s.sources() {
-            return p as u8;
-        }
-    }
-    16
-}
-
 // Elimination over the parity positions whose flag is 1, from the roles that are lent; the flag of each that becomes a pivot is
 // cleared. For settings that are not accepted nothing is done.
-pub fn eliminate(s: Settings, rows: &mut [[u8; 16]; 16], flags: &mut [u8; 16], roles: &mut [u8; 16])
-    requires { ⌜ length (now roles) ≡ 16 ⌝ }
+pub fn eliminate(
+    s: Settings,
+    reciprocals: &[u8; 256],
+    rows: &mut [[u8; 16]; 16],
+    flags: &mut [u8; 16],
+    roles: &mut [u8; 16],
+)
+    requires { ⌜ (length (now roles) ≡ 16) × (now reciprocals ≡ table 256 reciprocal) ⌝ }
     ensures { λ _. ⌜ (record { rows = now (rows .exit); roles = now (roles .exit) } ≡ reducedFrom s (record { rows = now (rows .entry); roles = now (roles .entry) }) (now (flags .entry))) × (now (flags .exit) ≡ leftFrom s (record { rows = now (rows .entry); roles = now (roles .entry) }) (now (flags .entry))) ⌝ }
 {
     if !s.accepted() {
@@ -99,7 +96,7 @@ pub fn eliminate(s: Settings, rows: &mut [[u8; 16]; 16], flags: &mut [u8; 16], r
     }
     let mut p = s.sources();
     while p < s.symbols() {
-        flags[p] = column_step(rows, roles, flags[p], p, s.sources());
+        flags[p] = column_step(rows, roles, flags[p], p, s.sources(), reciprocals);
         p += 1;
     }
 }

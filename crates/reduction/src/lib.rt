@@ -2,4 +2,3 @@
 mod columns;
 
 pub use columns::eliminate;
-pub use columns::first_role;

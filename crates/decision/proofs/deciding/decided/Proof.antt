@@ -24,36 +24,36 @@ use Rattle.decision.proofs.deciding.decided.Statement.{statement}
 use Rattle.decision.proofs.deciding.decided.Tie as tie
 
 abbrev Inv-loop : tie.InvT-loop
-Inv-loop s rows due t message₀ matrix pairs₀ lanes worst₀ i₀ message pairs worst i =
+Inv-loop s rows due t message₀ matrix reciprocals pairs₀ lanes worst₀ i₀ message pairs worst i =
     Shape s × (i ≤ kOf s) × (length message ≡ messageLen s) × (worst ≡ symbolsMark s rows due t i)
     × (worst ≡ 0 → (q : ℕ) → q < i * s .lanes → getD message q 0 ≡ sharedByte s rows due t q) × Clear pairs
 
 abbrev μ-loop : tie.MeasureT-loop
-μ-loop s rows due t message₀ matrix pairs₀ lanes worst₀ i₀ message pairs worst i = kOf s - i
+μ-loop s rows due t message₀ matrix reciprocals pairs₀ lanes worst₀ i₀ message pairs worst i = kOf s - i
 
 loop-holds : tie.Need-loop-holds Inv-loop μ-loop
 unfolding symbolsMark mark any
 loop-holds c =
-    let start = c .before .before .before .before in
+    let start = c .before .before .before .before .before in
     let none = zero-mul (start .args .s .lanes) in
     (shape (start .args .s) (start .pre .0 .settings), zero-le, start .pre .2, refl, (λ same q h. absurd (omega arith)), clear-start)
 
 -- the part of symbol i ends within the message, which is short
 ends : (c : tie.Then1 Inv-loop μ-loop)
     → let at-loop = c .before .before in
-    let a = at-loop .before .before .before .before .before .args in
+    let a = at-loop .before .before .before .before .before .before .args in
     at-loop .loop .i * a .s .lanes + a .s .lanes ≤ length (at-loop .loop .message)
 unfolding messageLen
 ends c =
     let at-loop = c .before .before in
     let at = at-loop .loop in
-    let a = at-loop .before .before .before .before .before .args in
+    let a = at-loop .before .before .before .before .before .before .args in
     let below : at .i < kOf (a .s) = omega arith in
     omega (arith, mul-le-mul-right (a .s .lanes) below, suc-mul (at .i) (a .s .lanes))
 
 few : (c : tie.Then1 Inv-loop μ-loop)
     → let at-loop = c .before .before in
-    let a = at-loop .before .before .before .before .before .args in
+    let a = at-loop .before .before .before .before .before .before .args in
     at-loop .loop .i * a .s .lanes + a .s .lanes ≤ 1088
 few c =
     let at = c .before .before .loop in
@@ -64,12 +64,12 @@ few c =
 -- the part of symbol i has L bytes
 part-exact : (c : tie.Then1 Inv-loop μ-loop)
     → let at-loop = c .before .before in
-    let a = at-loop .before .before .before .before .before .args in
+    let a = at-loop .before .before .before .before .before .before .args in
     let first = at-loop .loop .i * a .s .lanes in
     length (take (first + a .s .lanes - first) (drop first (at-loop .loop .message))) ≡ a .s .lanes
 part-exact c =
     let at-loop = c .before .before in
-    let a = at-loop .before .before .before .before .before .args in
+    let a = at-loop .before .before .before .before .before .before .args in
     let first : ℕ = at-loop .loop .i * a .s .lanes in
     omega (
       arith,
@@ -80,24 +80,33 @@ part-exact c =
 
 write-symbol-requires : tie.Need-write-symbol-requires Inv-loop μ-loop
 write-symbol-requires c κs =
-    let turn = c .before .before .before in
+    let turn = c .before .before .before .before in
     let at-loop = turn .before .before in
-    let start = at-loop .before .before .before .before .before in
-    (start .pre .0, start .pre .1, omega arith, at-loop .before .before .systematic .ensures, at-loop .loop .inv .5, part-exact turn)
+    let at-reciprocals = at-loop .before .before in
+    let at-systematic = at-reciprocals .before in
+    let start = at-systematic .before .before .before in (
+      start .pre .0,
+      start .pre .1,
+      omega arith,
+      at-systematic .systematic .ensures,
+      at-loop .loop .inv .5,
+      part-exact turn,
+      at-reciprocals .reciprocals .ensures,
+    )
 
 loop-again : tie.Need-loop-again Inv-loop μ-loop
 loop-again c =
     let wrote = c .before .before .before in
-    let turn = wrote .before .before .before .before in
+    let turn = wrote .before .before .before .before .before in
     let at-loop = turn .before .before in
     let at = at-loop .loop in
-    let a = at-loop .before .before .before .before .before .args in
+    let a = at-loop .before .before .before .before .before .before .args in
     let L : ℕ = a .s .lanes in
     let first : ℕ = at .i * L in
     let rest : List ℕ = drop (first + L - first) (drop first (at .message)) in
-    let part : List ℕ = wrote .write-symbol .last .1 .1 .1 .1 .1 .1 .1 .0 in
+    let part : List ℕ = wrote .write-symbol .last .1 .1 .1 .1 .1 .1 .1 .1 .0 in
     let told = wrote .write-symbol .ensures .0 in
-    let kept = wrote .write-symbol .kept .1 .1 .1 .1 .1 .1 .1 .0 in
+    let kept = wrote .write-symbol .kept .1 .1 .1 .1 .1 .1 .1 .1 .0 in
     let exact = kept ∙ part-exact turn in
     let grown : (at .i + 1) * L ≡ first + L = rw (add-one (at .i)) (suc-mul (at .i) L) in (
       at .inv .0,
@@ -115,11 +124,11 @@ loop-again c =
 
 -- after the loop the mark is that of all symbols
 marked : (c : tie.Else1 Inv-loop μ-loop)
-    → let a = c .before .before .before .before .before .before .before .args in
+    → let a = c .before .before .before .before .before .before .before .before .args in
     c .before .before .loop .worst ≡ symbolsMark (a .s) (now (a .rows)) (a .due) (a .t) (kOf (a .s))
 marked c =
     let at = c .before .before .loop in
-    let a = c .before .before .before .before .before .before .before .args in
+    let a = c .before .before .before .before .before .before .before .before .args in
     let all : at .i ≡ kOf (a .s) = omega arith in
     at .inv .3 ∙ ap (symbolsMark (a .s) (now (a .rows)) (a .due) (a .t)) all
 
@@ -127,7 +136,7 @@ returns : tie.Need-returns Inv-loop μ-loop
 unfolding bufferOf sharedBytes sharedByte messageLen
 returns c =
     let at = c .before .before .before .loop in
-    let a = c .before .before .before .before .before .before .before .before .args in
+    let a = c .before .before .before .before .before .before .before .before .before .args in
     let all : at .i ≡ kOf (a .s) = omega arith in
     let done : at .i * a .s .lanes ≡ kOf (a .s) * a .s .lanes = ap (λ (m : ℕ). m * a .s .lanes) all in (
       verdict-whole (a .s) (now (a .rows)) (a .due) (a .t) (sym (marked (c .before)) ∙ c .if2 .taken),
@@ -140,7 +149,7 @@ unfolding bufferOf
 returns-2 c =
     let after = c .before .before .before .before .before .before in
     let at = after .before .before .loop in
-    let a = after .before .before .before .before .before .before .before .args in (
+    let a = after .before .before .before .before .before .before .before .before .args in (
       verdict-lost (a .s) (now (a .rows)) (a .due) (a .t) (sym (marked after) ∙ c .if3 .taken),
       c .before .before .before .clear .ensures ∙ ap (λ (m : ℕ). replicate m 0) (at .inv .2),
     )
@@ -150,7 +159,7 @@ unfolding bufferOf
 returns-3 c =
     let after = c .before .before .before .before .before .before in
     let at = after .before .before .loop in
-    let a = after .before .before .before .before .before .before .before .args in (
+    let a = after .before .before .before .before .before .before .before .before .args in (
       verdict-clash (a .s) (now (a .rows)) (a .due) (a .t)
           (λ none. c .before .before .before .before .before .if2 .left (marked after ∙ none)) (λ one. c .if3 .left (marked after ∙ one)),
       c .before .before .before .clear .ensures ∙ ap (λ (m : ℕ). replicate m 0) (at .inv .2),
@@ -163,14 +172,15 @@ decided-spec =
     Inv-loop
     μ-loop
     (λ c κs. tt)
-    (λ c. let start = c .before .before .before .before in omega (arith, shape (start .args .s) (start .pre .0 .settings) .lanes-few))
+    (λ c κs. tt)
+    (λ c. let start = c .before .before .before .before .before in omega (arith, shape (start .args .s) (start .pre .0 .settings) .lanes-few))
     loop-holds
     (λ c κs. tt)
     (λ c. omega (arith, few c))
-    (λ c. omega (arith, few (c .before .before)))
+    (λ c. omega (arith, few (c .before .before .before)))
     (λ c. le-add-right _ _)
     (λ c. le-add-right _ _)
-    (λ c. ends (c .before .before))
+    (λ c. ends (c .before .before .before))
     write-symbol-requires
     (λ c κs. tt)
     (λ c. omega arith)

@@ -12,11 +12,11 @@ use Rattle.elimination.proofs.OwnColumns.{own-reduced}
 use Rattle.elimination.proofs.Reductions.{eliminated-reduced, reduced-roles}
 use Rattle.elimination.proofs.Roles.{first-sixteen}
 use Rattle.elimination.proofs.Terms.{both}
-use Rattle.lanes.specs.Lanes.{Own, laneByte, lanesSaid}
+use Rattle.lanes.specs.Lanes.{ParityOnly, Own, laneByte, lanesSaid}
 use Rattle.places.specs.Places.{placesOf, flagsOf}
 use Rattle.places.proofs.Places.{place-inside}
 use Rattle.decision.proofs.LaneSaid.{lane-below, flag-cases, lane-said}
-use Rattle.decision.proofs.ParityFlags.{Unsolved, located-eliminated, located-left}
+use Rattle.decision.proofs.ParityFlags.{Unsolved, located-eliminated, located-only, located-left}
 use Rattle.decision.proofs.Pivots.{left-said}
 use Rattle.decision.proofs.Answers.{told}
 use Rattle.decision.proofs.deciding.write_symbol.Statement.{statement}
@@ -49,12 +49,13 @@ read c = let a = c .args in flagsOf (a .s) (now (a .rows)) (a .due + a .i) (a .t
 
 eliminate-requires : tie.Need-eliminate-requires
 eliminate-requires c κs =
-    ap length (c .before .before .before .before .locate .ensures .2) ∙ first-sixteen _ _
+    let at-locate = c .before .before .before .before in
+    (ap length (at-locate .locate .ensures .2) ∙ first-sixteen _ _, begun at-locate .pre .6)
 
 -- the matrix and the roles are those of elimination over the flags
 reduced : (c : tie.After-eliminate)
     → let start = begun (located c) in
-    both (c .eliminate .last .1 .0) (c .eliminate .last .1 .1 .1 .0) ≡ eliminated (start .args .s) (knownIn (start .args .s) (read start))
+    both (c .eliminate .last .1 .1 .0) (c .eliminate .last .1 .1 .1 .1 .0) ≡ eliminated (start .args .s) (knownIn (start .args .s) (read start))
 reduced c =
     let start = begun (located c) in
     let is = located c .locate .ensures in
@@ -63,7 +64,7 @@ reduced c =
 
 reduced-by : (c : tie.After-eliminate)
     → let start = begun (located c) in
-    both (c .eliminate .last .1 .0) (c .eliminate .last .1 .1 .1 .0) ≡ reducedOf (start .args .s) (read start)
+    both (c .eliminate .last .1 .1 .0) (c .eliminate .last .1 .1 .1 .1 .0) ≡ reducedOf (start .args .s) (read start)
 reduced-by c =
     let start = begun (located c) in
     reduced c ∙ eliminated-reduced (start .args .s) (read start) (is-true _ (start .pre .0 .settings))
@@ -72,7 +73,7 @@ reduced-by c =
 left-by : (c : tie.After-eliminate)
     → let start = begun (located c) in
     let s = start .args .s in
-    Unsolved s (read start) (eliminated s (knownIn s (read start)) .roles) (c .eliminate .last .1 .1 .0)
+    Unsolved s (read start) (eliminated s (knownIn s (read start)) .roles) (c .eliminate .last .1 .1 .1 .0)
 left-by c =
     let start = begun (located c) in
     let a = start .args in
@@ -102,6 +103,8 @@ answer-requires c κs =
       start .pre .4,
       subst⁻¹ (λ (x : Reduced). Own (a .s) x (a .i)) (reduced-by at-eliminate)
           (own-reduced (a .s) (a .i) (start .pre .2) passed (read start)),
+      subst⁻¹ (ParityOnly (a .s)) (at-eliminate .eliminate .ensures .1)
+          (located-only (a .s) passed (read start) _ _ _ (start .pre .3) (at-locate .locate .ensures .1) (at-locate .locate .ensures .2)),
     )
 
 returns : tie.Need-returns
@@ -116,7 +119,7 @@ returns c =
     let rows : List ℕ = now (a .rows) in
     let out : List ℕ = now (a .out) in
     let flags : List ℕ = read start in
-    let left : List ℕ = at-eliminate .eliminate .last .1 .1 .0 in
+    let left : List ℕ = at-eliminate .eliminate .last .1 .1 .1 .0 in
     let places : List ℕ = placesOf (a .s) (a .t) (a .i) in
     let x : Reduced = eliminated (a .s) (knownIn (a .s) flags) in
     let h = shaped start in

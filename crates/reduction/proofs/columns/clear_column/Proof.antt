@@ -20,12 +20,12 @@ use Rattle.reduction.proofs.columns.clear_column.Statement.{statement}
 use Rattle.reduction.proofs.columns.clear_column.Tie as tie
 
 abbrev Inv-loop : tie.InvT-loop
-Inv-loop rows₀ r p k pivot parts q₀ rows q =
+Inv-loop rows₀ r p k reciprocals pivot parts q₀ rows q =
     (q ≤ k) × (length rows ≡ 16) × ((i : ℕ) → i < q → getD rows i [] ≡ sweptRow rows₀ r p i)
     × ((i : ℕ) → q ≤ i → getD rows i [] ≡ getD rows₀ i [])
 
 abbrev μ-loop : tie.MeasureT-loop
-μ-loop rows₀ r p k pivot parts q₀ rows q = k - q
+μ-loop rows₀ r p k reciprocals pivot parts q₀ rows q = k - q
 
 loop-again : tie.Need-loop-again Inv-loop μ-loop
 unfolding cell scaledAt

@@ -55,6 +55,7 @@ clear-column-requires c κs =
       start .pre .0,
       start .pre .1,
       search needs,
+      start .pre .3,
     )
 
 pub column-step-spec : {M : Type 1} → statement M

@@ -20,13 +20,13 @@ use Rattle.reduction.proofs.columns.eliminate.Statement.{statement}
 use Rattle.reduction.proofs.columns.eliminate.Tie as tie
 
 abbrev Inv-loop : tie.InvT-loop
-Inv-loop s rows₀ flags₀ roles₀ p₀ rows flags roles p =
+Inv-loop s reciprocals rows₀ flags₀ roles₀ p₀ rows flags roles p =
     Shape s × (kOf s ≤ p) × (p ≤ nOf s)
     × (both rows roles ≡ columns s (knownIn s flags₀) (both rows₀ roles₀) (p - kOf s))
     × (flags ≡ leftAfter s (both rows₀ roles₀) flags₀ (p - kOf s))
 
 abbrev μ-loop : tie.MeasureT-loop
-μ-loop s rows₀ flags₀ roles₀ p₀ rows flags roles p = nOf s - p
+μ-loop s reciprocals rows₀ flags₀ roles₀ p₀ rows flags roles p = nOf s - p
 
 returns : tie.Need-returns Inv-loop μ-loop
 returns c =
@@ -57,7 +57,8 @@ column-step-requires c κs =
       omega arith,
       omega arith,
       ap (λ (x : Reduced). length (x .roles)) (at .inv .3)
-          ∙ sixteen-roles (a .s) (at .inv .0) (knownIn (a .s) (now (a .flags))) (both (now (a .rows)) (now (a .roles))) (start .pre) (at .p - kOf (a .s)),
+          ∙ sixteen-roles (a .s) (at .inv .0) (knownIn (a .s) (now (a .flags))) (both (now (a .rows)) (now (a .roles))) (start .pre .0) (at .p - kOf (a .s)),
+      start .pre .1,
     )
 
 loop-again : tie.Need-loop-again Inv-loop μ-loop
