@@ -66,7 +66,7 @@ fn place_sources(
     start
 }
 
-// The places and the flags of the parity positions, the first of them in the row that begins at `first`.
+// The places and the flags of the parity positions, the first of them in the row that begins at `first`; only the contract speaks of i.
 fn place_parities(
     s: Settings,
     rows: &[u8],
