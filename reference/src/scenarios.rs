@@ -1,11 +1,19 @@
-//! The scenarios, as SCENARIOS.md describes them: many calls of both ends, one line each.
+//! The scenarios, as SCENARIOS.md describes them: the figures in three lanes, and then many
+//! calls of both ends, one line each.
 
+use std::fmt::Display;
+
+use crate::broadcast;
 use crate::frame;
 use crate::patterns::Draws;
 use crate::receiver::{self, Reply};
 use crate::sender;
 use crate::settings::Settings;
 use crate::state::{Refusal, State};
+
+/// The figures' messages of slots 0 to 5: symbol 0 of lanes 0, 1 and 2, and then symbol 1.
+const MESSAGES: [[u8; 6]; 6] =
+    [[1, 16, 0, 0, 0, 0], [0, 0, 1, 1, 16, 0], [0, 0, 0, 0, 0, 1], [0; 6], [0; 6], [0; 6]];
 
 /// Every (T, B, N), in order.
 const CODES: [(u8, u8, u8); 7] =
@@ -18,6 +26,9 @@ const KINDS: [(Kind, u8, u32); 4] = [
     (Kind::Lent, 1, 0),
     (Kind::Lent, 3, 3_999_999_970),
 ];
+
+/// How many ways there are of breaking settings.
+const WAYS: usize = 8;
 
 #[derive(Clone, Copy, PartialEq, Eq)]
 enum Kind {
@@ -36,7 +47,7 @@ enum Size {
 /// All lines, without their newlines.
 pub fn lines() -> Vec<String> {
     let mut draws = Draws::from(20261116);
-    let mut lines = Vec::new();
+    let mut lines = figures();
     for (delay, burst, scattered) in CODES {
         for (kind, lanes, start) in KINDS {
             let settings = Settings { lanes, ..Settings::of_code(delay, burst, scattered) };
@@ -54,6 +65,40 @@ pub fn lines() -> Vec<String> {
     lines
 }
 
+/// "The figures in three lanes": cases 9 to 12 of document 01 with L = 3.
+fn figures() -> Vec<String> {
+    let settings = Settings { lanes: 3, ..Settings::of_code(3, 2, 2) };
+    let frames = broadcast::of(settings, &MESSAGES.map(Vec::from));
+    let mut damaged = frames.clone();
+    // Symbol 2 of lane 0, where case 12 has its other byte.
+    damaged[2][frame::HEADER + 6] = 2;
+    let mut lines = vec!["figures 3 2 2 3".to_string()];
+    lines.extend(frames.iter().map(|frame| format!("body{}", spaced(frame::body(frame)))));
+    lines.extend(told(settings, &frames, &[0, 1]));
+    lines.extend(told(settings, &frames, &[0, 1, 2]));
+    lines.extend(told(settings, &damaged, &[]));
+    lines
+}
+
+/// A receiver is told of every slot: of these losses, and of the frames of the other slots.
+fn told(settings: Settings, frames: &[Vec<u8>], lost: &[usize]) -> Vec<String> {
+    let mut rows = vec![0; receiver::rows_length(&settings)];
+    let (mut state, opened) = receiver::open(settings, &mut rows);
+    assert_eq!(opened, Ok(()));
+    let mut lines = Vec::new();
+    for (slot, frame) in frames.iter().enumerate() {
+        let mut message = vec![0; frame::message_length(&settings)];
+        let reply;
+        (state, reply) = if lost.contains(&slot) {
+            receiver::report_loss(state, &mut rows, &mut message)
+        } else {
+            receiver::report_frame(state, &mut rows, frame, &mut message)
+        };
+        lines.push(format!("told {}{}", outcome(reply, word_of_reply), spaced(&message)));
+    }
+    lines
+}
+
 fn title(s: &Settings, kind: Kind, start: u32) -> String {
     let kind = if kind == Kind::Fresh { "fresh" } else { "lent" };
     format!("scenario {} {} {} {} {kind} {start}", s.delay, s.burst, s.scattered, s.lanes)
@@ -63,6 +108,11 @@ fn title(s: &Settings, kind: Kind, start: u32) -> String {
 fn sum(bytes: &[u8]) -> usize {
     let terms = bytes.iter().enumerate().map(|(index, &byte)| (index + 1) * usize::from(byte));
     terms.sum::<usize>() % 65521
+}
+
+/// Each number with a space before it.
+fn spaced(numbers: &[impl Display]) -> String {
+    numbers.iter().map(|number| format!(" {number}")).collect()
 }
 
 fn text_of_state(state: &State) -> String {
@@ -96,7 +146,10 @@ fn broken(settings: Settings, way: usize) -> Settings {
         2 => Settings { scattered: 0, ..s },
         3 => Settings { scattered: s.burst + 1, ..s },
         4 => Settings { lanes: 0, ..s },
-        _ => Settings { lanes: 65, ..s },
+        5 => Settings { lanes: 65, ..s },
+        // The narrowest window of a code where n is 17: W is 16 or 10.
+        6 => Settings { lanes: s.lanes, ..Settings::of_code(15, 2, 1) },
+        _ => Settings { lanes: s.lanes, ..Settings::of_code(9, 8, 1) },
     }
 }
 
@@ -171,10 +224,10 @@ impl<'a> Scenario<'a> {
     fn openings(&mut self) -> Vec<(Settings, Size)> {
         let settings = self.settings;
         let way = |r| (broken(settings, r), Size::Exact);
-        let mut openings: Vec<(Settings, Size)> = (0..6).map(way).collect();
+        let mut openings: Vec<(Settings, Size)> = (0..WAYS).map(way).collect();
         openings.push((settings, Size::Shorter));
         openings.push((settings, Size::Longer));
-        openings.push((broken(settings, self.draws.below(6)), Size::Shorter));
+        openings.push((broken(settings, self.draws.below(WAYS)), Size::Shorter));
         openings.push((settings, Size::Exact));
         openings
     }
@@ -290,7 +343,7 @@ impl<'a> Scenario<'a> {
         let mut call = self.right(state);
         let has = |fault: usize| faults & fault != 0;
         if has(1) {
-            call.state.settings = broken(state.settings, self.draws.below(6));
+            call.state.settings = broken(state.settings, self.draws.below(WAYS));
         }
         if has(2) {
             let h = self.draws.below(2 * things);
@@ -355,7 +408,52 @@ impl<'a> Scenario<'a> {
     }
 
     fn print(&mut self, call: &str, outcome: String, state: &State, sums: &[usize]) {
-        let sums: String = sums.iter().map(|sum| format!(" {sum}")).collect();
-        self.lines.push(format!("{call} {outcome} {}{sums}", text_of_state(state)));
+        self.lines.push(format!("{call} {outcome} {}{}", text_of_state(state), spaced(sums)));
+    }
+}
+
+#[cfg(test)]
+mod tests {
+    use super::*;
+
+    /// W, T, B, N and L of settings broken in each way.
+    fn every_way(settings: Settings) -> [[u8; 5]; WAYS] {
+        [0, 1, 2, 3, 4, 5, 6, 7].map(|way| {
+            let s = broken(settings, way);
+            [s.window, s.delay, s.burst, s.scattered, s.lanes]
+        })
+    }
+
+    #[test]
+    fn settings_are_broken_as_each_way_says() {
+        let settings = Settings { window: 9, lanes: 3, ..Settings::of_code(5, 3, 2) };
+        let [w, b, n, more_n, l, more_l, n_is_17, again] = every_way(settings);
+        assert_eq!((w, b), ([5, 5, 3, 2, 3], [9, 5, 6, 2, 3]));
+        assert_eq!((n, more_n), ([9, 5, 3, 0, 3], [9, 5, 3, 4, 3]));
+        assert_eq!((l, more_l), ([9, 5, 3, 2, 0], [9, 5, 3, 2, 65]));
+        assert_eq!((n_is_17, again), ([16, 15, 2, 1, 3], [10, 9, 8, 1, 3]));
+    }
+
+    #[test]
+    fn broken_settings_are_not_accepted() {
+        for (delay, burst, scattered) in CODES {
+            let settings = Settings::of_code(delay, burst, scattered);
+            assert!(settings.accepted());
+            assert!((0..WAYS).all(|way| !broken(settings, way).accepted()));
+            // In the last two ways it is n alone that is not accepted.
+            assert_eq!([6, 7].map(|way| broken(settings, way).n()), [17, 17]);
+        }
+    }
+
+    #[test]
+    fn the_lanes_of_the_figures_have_the_messages_of_case_9() {
+        let lane = |slot: usize, lane: usize| [MESSAGES[slot][lane], MESSAGES[slot][3 + lane]];
+        let case_9 = [[1, 0], [0, 1], [0, 0], [0, 0], [0, 0], [0, 0]];
+        for slot in 0..6 {
+            assert_eq!(lane(slot, 0), case_9[slot]);
+            assert_eq!(lane(slot, 1), case_9[slot].map(|byte| 16 * byte));
+            // A slot later, and nothing before slot 0.
+            assert_eq!(lane(slot, 2), if slot == 0 { [0, 0] } else { case_9[slot - 1] });
+        }
     }
 }
