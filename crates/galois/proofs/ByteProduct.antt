@@ -151,7 +151,6 @@ pub one-times : (x : ℕ) → x < 256 → 1 ⊗ x ≡ x
 unfolding every _⊗_ _⊞_ _⊠_ narrow timesBits timesZ high low byte eight
 one-times = additive-equal (λ x. 1 ⊗ x) (λ x. x) (distributes 1) (λ x y. refl) 8 (equal 8 (λ i. 1 ⊗ 2 ^ i) (λ i. 2 ^ i) tt)
 
--- a factor counts as its remainder by 256
 high-remainder : (x : ℕ) → high x ≡ high (x % 256)
 unfolding high
 high-remainder x = omega arith
@@ -168,7 +167,8 @@ times-remainder x y =
     (high-remainder y) (low-remainder y)
     ∙ sym (times-halves x (y % 256))
 
-remainder-times : (x y : ℕ) → x ⊗ y ≡ (x % 256) ⊗ y
+-- a factor counts as its remainder by 256
+pub remainder-times : (x y : ℕ) → x ⊗ y ≡ (x % 256) ⊗ y
 remainder-times x y = times-comm x y ∙ times-remainder y x ∙ times-comm y (x % 256)
 
 -- the law of three factors where x is the first

@@ -2,7 +2,7 @@
 use crate::narrow::Gf16;
 use crate::tables::RECIPROCALS;
 ghost use mathlib.Core.Path.{_≡_};
-ghost use Rattle.galois.specs.Byte.{_⊕_, _⊗_, reciprocal, quotient, high, low, byte, widen};
+ghost use Rattle.galois.specs.Byte.{_⊕_, _⊗_, alpha, reciprocal, quotient, high, low, byte, widen};
 ghost use Rattle.galois.specs.Table.{table};
 
 // A byte.
@@ -28,6 +28,21 @@ impl Gf256 {
         let top = hg.sum(h.product(m).sum(l.product(g)));
         let rest = Gf16::EIGHT.product(hg).sum(l.product(m));
         Gf256::joined(top, rest)
+    }
+
+    // z times a byte: both halves shifted, and z^4 replaced by z + 1 in each.
+    pub fn times_z(self) -> Gf256
+        ensures { λ r. ⌜ r .0 ≡ 2 ⊗ self .0 ⌝ }
+    {
+        let x = self.0;
+        Gf256((x & 0x77) * 2 ^ (x / 8 & 0x11) * 3)
+    }
+
+    // α times a byte.
+    pub fn times_alpha(self) -> Gf256
+        ensures { λ r. ⌜ r .0 ≡ alpha ⊗ self .0 ⌝ }
+    {
+        Gf256::ALPHA.product(self)
     }
 
     pub fn reciprocal(self) -> Gf256

@@ -1,4 +1,3 @@
 -- The laws of the multiples of bytes and of rows.
 pub mod Digits
-pub mod Halves
 pub mod Multiples

@@ -17,9 +17,9 @@ use Rattle.galois.proofs.ByteProduct.{distributes, zero-times, one-times}
 use Rattle.galois.proofs.Cases.{equal, le-or-lt}
 use Rattle.galois.proofs.Sums.{sum-equal, sum-plus, multiple-of-sum}
 use Rattle.galois.proofs.Xor.{plus-assoc, plus-self, plus-zero, zero-plus}
-use Rattle.multiples.proofs.Halves.{fromBits, narrow-times, by-halves}
 use Rattle.vectors.specs.Pairs.{vectorOf, Paired}
 use Rattle.vectors.specs.Halves.{halfOf, halvesSum, Under}
+use Rattle.vectors.proofs.Halves.{fromBits, narrow-times, by-halves}
 
 -- lane v of entry e
 abbrev pub lane : List (List ℕ) → ℕ → ℕ → ℕ

@@ -1,4 +1,5 @@
 // Sixteen vectors of lanes in eight pairs, each with zeros and with its sum: bytes put over the two vectors of a pair, and over their sum.
+use galois::Gf256;
 ghost use mathlib.Core.Path.{_≡_};
 ghost use Prim.Native.Nat.{_<_, _≤_};
 ghost use lib.ListN.{length};
@@ -19,11 +20,11 @@ pub fn pair_up(
     let e = j * 2;
     let mut v: usize = 0;
     while v < first.len() {
-        let x = first[v] & keep_first;
-        let y = second[v] & keep_second;
-        pairs[e + 1][v] = x;
-        pairs[e + 16][v] = y;
-        pairs[e + 17][v] = x ^ y;
+        let x = Gf256(first[v] & keep_first);
+        let y = Gf256(second[v] & keep_second);
+        pairs[e + 1][v] = x.0;
+        pairs[e + 16][v] = y.0;
+        pairs[e + 17][v] = x.sum(y).0;
         v += 1;
     }
 }

@@ -1,7 +1,6 @@
 // Weighted sums of the vectors of a table of pairs. The coefficients are taken bit by bit, so that a sum stays in registers; the halves of
 // the two coefficients of a pair stand in one byte, so that two bits of it pick one entry of the pair.
-use multiples::alpha_times;
-use multiples::doubled;
+use galois::Gf256;
 ghost use mathlib.Core.Path.{_≡_};
 ghost use mathlib.Core.List.{[]};
 ghost use Prim.Native.Nat.{ℕ, _*_, _/_, _%_, _^_, _<_, _≤_};
@@ -19,7 +18,7 @@ fn double(sum: &mut [u8; 64])
 {
     let mut v: usize = 0;
     while v < 64 {
-        sum[v] = doubled(sum[v]);
+        sum[v] = Gf256(sum[v]).times_z().0;
         v += 1;
     }
 }
@@ -28,7 +27,7 @@ fn double(sum: &mut [u8; 64])
 fn plus(x: u8, y: u8) -> u8
     ensures { λ r. ⌜ (r ≡ x ⊕ y) × (y < 256) ⌝ }
 {
-    x ^ y
+    Gf256(x).sum(Gf256(y)).0
 }
 
 // Adds a vector, lane by lane; its lanes are bytes.
@@ -138,7 +137,7 @@ pub fn weighted(rows: &[[u8; 16]; 16], q: usize, pairs: &[[u8; 64]; 32], count: 
     let mut out = [0u8; 64];
     let mut v: usize = 0;
     while v < 64 {
-        out[v] = low[v] ^ alpha_times(high[v]);
+        out[v] = Gf256(low[v]).sum(Gf256(high[v]).times_alpha()).0;
         v += 1;
     }
     out

@@ -1,13 +1,12 @@
--- The loop fills the row from the front: α times the byte by the high half of c, and the byte by its low half.
+-- The loop fills the row from the front.
 use borrow.Author.Needs.{needs}
-use mathlib.Core.Path.{_≡_, refl, ap, ap₂, _∙_}
+use mathlib.Core.Path.{_≡_, refl}
 use native.Mathlib.Nat.{not-suc-le-zero}
 use native.Mathlib.Omega.{arith}
 use Prim.Native.Nat.{ℕ, _-_, _<_, _≤_, zero-le}
 use lib.ListN.{length, getD, length-set}
-use Rattle.galois.specs.Byte.{_⊕_, _⊗_, alpha}
+use Rattle.galois.specs.Byte.{_⊗_}
 use Rattle.galois.proofs.ByIndex.{is-table, filled-more}
-use Rattle.multiples.proofs.Halves.{both-halves}
 use Rattle.multiples.proofs.rows.row_times.Statement.{statement}
 use Rattle.multiples.proofs.rows.row_times.Tie as tie
 
@@ -18,17 +17,12 @@ abbrev μ-loop : tie.MeasureT-loop
 μ-loop c row out₀ j₀ out j = 16 - j
 
 loop-again : tie.Need-loop-again Inv-loop μ-loop
-unfolding _⊕_
 loop-again c =
-    let at-high = c .before .before in
-    let at-loop = at-high .before .before in
-    let at = at-loop .loop in
-    let a = at-loop .before .args in
-    let high = c .before .alpha-times .ensures ∙ ap (λ (y : ℕ). alpha ⊗ y) (at-high .by-bits .ensures) in (
+    let at = c .before .before .loop in
+    let a = c .before .before .before .args in (
       omega arith,
       simp length-set (at .inv .1),
-      filled-more (λ i. a .c ⊗ getD (a .t1) i 0) 0 (at .out) (at .j) _ (omega arith)
-          (ap₂ _⊕_ high (c .by-bits2 .ensures) ∙ both-halves (a .c) (getD (a .t1) (at .j) 0)) (at .inv .2),
+      filled-more (λ i. a .c ⊗ getD (a .t1) i 0) 0 (at .out) (at .j) _ (omega arith) (c .product .ensures) (at .inv .2),
     )
 
 returns : tie.Need-returns Inv-loop μ-loop
@@ -44,9 +38,6 @@ row-times-spec =
     Inv-loop
     μ-loop
     (λ c. (zero-le, refl, λ i h. absurd (not-suc-le-zero h)))
-    (λ c. omega arith)
-    (λ c κs. search needs)
-    (λ c κs. search needs)
     (λ c. omega arith)
     (λ c κs. search needs)
     (λ c. omega arith)

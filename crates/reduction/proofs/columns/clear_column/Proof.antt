@@ -14,6 +14,8 @@ use lib.Seq.{getD-set-same, getD-set-other}
 use Rattle.galois.specs.Byte.{_⊕_, _⊗_}
 use Rattle.galois.specs.Table.{table}
 use Rattle.galois.proofs.ByIndex.{is-table, filled-more, kept-more}
+use Rattle.multiples.specs.Quarters.{rowBy}
+use Rattle.multiples.proofs.Digits.{row-by-quarters}
 use Rattle.elimination.specs.Elimination.{cell, scaledAt, cleared}
 use Rattle.reduction.proofs.Rewritten.{clearedRow, sweptRow, row-swept, row-own, row-other}
 use Rattle.reduction.proofs.columns.clear_column.Statement.{statement}
@@ -35,7 +37,9 @@ loop-again c =
     let at-scaled = at-loop .before .before in
     let a = at-scaled .before .before .args in
     let swept : c .row-by .result ≡ sweptRow (now (a .rows)) (a .r) (a .p) (at .q) =
-    c .row-by .ensures (at-scaled .scaled .result) (at-loop .before .quarters .ensures)
+    c .row-by .ensures
+    ∙ ap (λ (parts : List (List ℕ)). rowBy (getD (at .rows) (at .q) []) (cell (at .rows) (at .q) (a .p)) parts) (at-loop .before .quarters .ensures)
+    ∙ row-by-quarters (getD (at .rows) (at .q) []) (at-scaled .scaled .result) (cell (at .rows) (at .q) (a .p))
     ∙ ap₂ (λ (row pivot : List ℕ). table 16 (λ j. getD row j 0 ⊕ getD row (a .p) 0 ⊗ getD pivot j 0))
     (at .inv .3 (at .q) (le-refl (at .q))) (at-scaled .scaled .ensures)
     ∙ row-swept (now (a .rows)) (a .r) (a .p) (at .q) in (

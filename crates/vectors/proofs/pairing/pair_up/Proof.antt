@@ -1,4 +1,5 @@
 -- A turn puts one lane over the three vectors; what stands after it is as it came.
+use borrow.Author.Needs.{needs}
 use mathlib.Core.Path.{_≡_, refl, subst}
 use native.Mathlib.Omega.{arith}
 use Prim.Native.Nat.{ℕ, _-_, _*_, _≤_, zero-le}
@@ -21,29 +22,31 @@ abbrev μ-loop : tie.MeasureT-loop
 
 loop-holds : tie.Need-loop-holds Inv-loop μ-loop
 loop-holds c =
-    let a = c .args in
+    let start = c .before .before in
+    let a = start .args in
     let one : ℕ → ℕ = λ v. masked (getD (now (a .first)) v 0) (a .keep-first) in
     let two : ℕ → ℕ = λ v. masked (getD (now (a .second)) v 0) (a .keep-second) in
-    (zero-le, none-put (now (a .pairs)) (a .j * 2) one two (λ v. one v ⊕ two v) (c .pre .3) (omega arith))
+    (zero-le, none-put (now (a .pairs)) (a .j * 2) one two (λ v. one v ⊕ two v) (start .pre .3) (omega arith))
 
 loop-again : tie.Need-loop-again Inv-loop μ-loop
-unfolding masked _⊕_
+unfolding masked
 loop-again c =
-    let at = c .before .before .before .loop in
-    let start = c .before .before .before .before in
+    let at-loop = c .before .before .before .before in
+    let at = at-loop .loop in
+    let start = at-loop .before .before .before in
     let a = start .args in
     let one : ℕ → ℕ = λ v. masked (getD (now (a .first)) v 0) (a .keep-first) in
     let two : ℕ → ℕ = λ v. masked (getD (now (a .second)) v 0) (a .keep-second) in (
       omega arith,
-      put-more (at .pairs) (a .j * 2) (at .v) (one (at .v)) (two (at .v)) (one (at .v) ⊕ two (at .v)) (now (a .pairs)) one two (λ v. one v ⊕ two v)
-          (omega (arith, start .pre .3 .entries)) (omega arith) refl refl refl (at .inv .1),
+      put-more (at .pairs) (a .j * 2) (at .v) (one (at .v)) (two (at .v)) (c .sum .result .0) (now (a .pairs)) one two (λ v. one v ⊕ two v)
+          (omega (arith, start .pre .3 .entries)) (omega arith) refl refl (c .sum .ensures) (at .inv .1),
     )
 
 returns : tie.Need-returns Inv-loop μ-loop
 unfolding pairedUp
 returns c =
     let at = c .before .loop in
-    let start = c .before .before in
+    let start = c .before .before .before .before in
     let a = start .args in
     let one : ℕ → ℕ = λ v. masked (getD (now (a .first)) v 0) (a .keep-first) in
     let two : ℕ → ℕ = λ v. masked (getD (now (a .second)) v 0) (a .keep-second) in
@@ -70,6 +73,7 @@ pair-up-spec =
     (λ c. omega arith)
     (λ c. omega arith)
     (λ c. omega arith)
+    (λ c κs. search needs)
     (λ c. omega arith)
     (λ c. omega arith)
     (λ c. omega arith)

@@ -23,7 +23,7 @@ loop-again : tie.Need-loop-again Inv-loop μ-loop
 loop-again c =
     let at = c .before .before .before .loop in
     let a = c .before .before .before .before .args in
-    let value = c .doubled .ensures ∙ ap (λ (y : ℕ). 2 ⊗ y) (at .inv .3 (at .v) (le-refl (at .v))) in (
+    let value = c .times-z .ensures ∙ ap (λ (y : ℕ). 2 ⊗ y) (at .inv .3 (at .v) (le-refl (at .v))) in (
       omega arith,
       simp length-set (at .inv .1),
       filled-more (λ i. 2 ⊗ getD (now (a .sum)) i 0) 0 (at .sum) (at .v) _ (omega arith) value (at .inv .2),

@@ -24,16 +24,15 @@ abbrev μ-loop : tie.MeasureT-loop
 μ-loop rows q pairs count high low out₀ v₀ out v = 64 - v
 
 loop-again : tie.Need-loop-again Inv-loop μ-loop
-unfolding _⊕_
 loop-again c =
-    let at-loop = c .before .before in
+    let at-loop = c .before .before .before in
     let at = at-loop .loop in
     let low = at-loop .before .by-nibble .result in
     let high = at-loop .before .before .before .before .by-upper .result in (
       omega arith,
       simp length-set (at .inv .1),
       filled-more (λ i. getD low i 0 ⊕ alpha ⊗ getD high i 0) 0 (at .out) (at .v) _ (omega arith)
-          (ap (λ (x : ℕ). getD low (at .v) 0 ⊕ x) (c .alpha-times .ensures)) (at .inv .2),
+          (c .sum .ensures ∙ ap (λ (x : ℕ). getD low (at .v) 0 ⊕ x) (c .before .times-alpha .ensures)) (at .inv .2),
     )
 
 returns : tie.Need-returns Inv-loop μ-loop
@@ -72,6 +71,7 @@ weighted-spec =
     (λ c. (zero-le, refl, λ i h. absurd (not-suc-le-zero h)))
     (λ c. omega arith)
     (λ c. omega arith)
+    (λ c κs. search needs)
     (λ c κs. search needs)
     (λ c. omega arith)
     (λ c. omega arith)

@@ -1,14 +1,13 @@
 -- A narrow number from its four bits, and a byte from its two halves; so the products with them.
 use mathlib.Core.Path.{_≡_, sym, ap, ap₂, _∙_}
-use Prim.Native.Nat.{ℕ, zero, suc, _*_, _/_, _%_, _<_}
-use native.Mathlib.Nat.{mod-lt, zero-lt-suc, mul-zero, mul-one}
+use Prim.Native.Nat.{ℕ, _/_, _%_, _<_}
+use native.Mathlib.Nat.{mod-lt, zero-lt-suc}
 use native.Mathlib.Omega.{arith}
 use Rattle.galois.specs.Bounded.{every}
 use Rattle.galois.specs.Byte.{_⊕_, _⊗_, high, low, byte, alpha, eight}
 use Rattle.galois.specs.Narrow.{narrow, _⊞_, timesZ, timesBits, _⊠_}
-use Rattle.galois.proofs.ByteProduct.{distributes-left, times-assoc, zero-times, one-times}
+use Rattle.galois.proofs.ByteProduct.{distributes-left, times-assoc, remainder-times}
 use Rattle.galois.proofs.Cases.{equal}
-use Rattle.galois.proofs.Xor.{plus-comm}
 
 -- ---- a narrow number from its four bits
 
@@ -38,38 +37,12 @@ pub narrow-times : (a y : ℕ) → a < 16 → fromBits ((a / 8 % 2) ⊗ y) ((a /
 narrow-times a y h =
     from-bits-times (a / 8 % 2) (a / 4 % 2) (a / 2 % 2) (a % 2) y ∙ ap (λ (k : ℕ). k ⊗ y) (four-bits a h)
 
--- a byte by a bit
-bit-times : (x d : ℕ) → x < 256 → d < 2 → x * d ≡ d ⊗ x
-bit-times x zero hx hd = mul-zero x ∙ sym (zero-times x)
-bit-times x (suc zero) hx hd = mul-one x ∙ sym (one-times x hx)
-bit-times x (suc (suc d)) hx hd = omega arith
-
--- the byte where a bit is set, the highest bit first, each step doubled before the next, is the byte by the narrow number of the bits
-pub times-four-bits : (x c : ℕ) → x < 256
-    → 2 ⊗ (2 ⊗ (2 ⊗ (x * (c / 8 % 2)) ⊕ x * (c / 4 % 2)) ⊕ x * (c / 2 % 2)) ⊕ x * (c % 2) ≡ (c % 16) ⊗ x
-unfolding fromBits
-times-four-bits x c hx =
-    let a = c % 16 in
-    let term : (n d : ℕ) → n % 2 ≡ d → x * (n % 2) ≡ d ⊗ x =
-    λ n d e. bit-times x (n % 2) hx (mod-lt n (zero-lt-suc 1)) ∙ ap (λ (k : ℕ). k ⊗ x) e in
-    ap₂ (λ (y z : ℕ). fromBits y z (x * (c / 2 % 2)) (x * (c % 2)))
-    (term (c / 8) (a / 8 % 2) (omega arith)) (term (c / 4) (a / 4 % 2) (omega arith))
-    ∙ ap₂ (λ (y z : ℕ). fromBits ((a / 8 % 2) ⊗ x) ((a / 4 % 2) ⊗ x) y z)
-    (term (c / 2) (a / 2 % 2) (omega arith)) (term c (a % 2) (omega arith))
-    ∙ narrow-times a x (mod-lt c (zero-lt-suc 15))
-
 -- ---- a byte from its two halves
 
 -- a byte is its low half and α times its high half
 halves : (x : ℕ) → x < 256 → x % 16 ⊕ alpha ⊗ (x / 16 % 16) ≡ x
 unfolding every alpha _⊕_ _⊗_ _⊞_ _⊠_ narrow timesBits timesZ high low byte eight
 halves = equal 256 (λ x. x % 16 ⊕ alpha ⊗ (x / 16 % 16)) (λ x. x) tt
-
--- a factor counts as its remainder by 256
-remainder-times : (x y : ℕ) → (x % 256) ⊗ y ≡ x ⊗ y
-unfolding _⊗_ high low
-remainder-times x y =
-    ap₂ (λ (h l : ℕ). byte (h ⊠ high y ⊞ (h ⊠ low y ⊞ l ⊠ high y)) (eight ⊠ (h ⊠ high y) ⊞ l ⊠ low y)) (omega arith) (omega arith)
 
 -- y by the low half and α times y by the high half are y by the byte
 pub by-halves : (c y : ℕ) → (c % 16) ⊗ y ⊕ alpha ⊗ ((c / 16 % 16) ⊗ y) ≡ c ⊗ y
@@ -80,8 +53,4 @@ by-halves c y =
     ∙ ap (λ (z : ℕ). (c % 256 % 16) ⊗ y ⊕ z) (sym (times-assoc alpha (c % 256 / 16 % 16) y))
     ∙ sym (distributes-left y (c % 256 % 16) (alpha ⊗ (c % 256 / 16 % 16)))
     ∙ ap (λ (z : ℕ). z ⊗ y) (halves (c % 256) (mod-lt c (zero-lt-suc 255)))
-    ∙ remainder-times c y
-
--- the same, α times y by the high half first
-pub both-halves : (c y : ℕ) → alpha ⊗ ((c / 16 % 16) ⊗ y) ⊕ (c % 16) ⊗ y ≡ c ⊗ y
-both-halves c y = plus-comm (alpha ⊗ ((c / 16 % 16) ⊗ y)) ((c % 16) ⊗ y) ∙ by-halves c y
+    ∙ sym (remainder-times c y)
