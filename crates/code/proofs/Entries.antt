@@ -42,6 +42,13 @@ entry-spread-row s i j hi hj h = rw (lt-ltb i (kOf s) hi, lt-ltb j (nOf s) hj, l
 
 -- ---- the rows below d, from position T on
 
+-- α times the identity
+pub entry-alpha-row : (s : Settings) (i j : ℕ) → i < kOf s → j < nOf s → i < dOf s → delayOf s ≤ j
+    → entry s i j ≡ alphaEntry (delayOf s) i j
+unfolding entry
+entry-alpha-row s i j hi hj hd h =
+    rw (lt-ltb i (kOf s) hi, lt-ltb j (nOf s) hj, lt-ltb i (dOf s) hd, le-leb (delayOf s) j h)
+
 -- a choice between 0 and 0 is 0
 choice-zero : (t : Bool) → cond {A = ℕ} t 0 0 ≡ 0
 choice-zero true = refl
@@ -50,15 +57,10 @@ choice-zero false = refl
 module _ (s : Settings) (h : Shape s) where
   -- α at position T + i
   pub entry-alpha : (i : ℕ) → i < dOf s → entry s i (delayOf s + i) ≡ alpha
-  unfolding entry alphaEntry
+  unfolding alphaEntry
   entry-alpha i hi =
-      rw (
-        lt-ltb i (kOf s) (omega arith),
-        lt-ltb (delayOf s + i) (nOf s) (omega arith),
-        lt-ltb i (dOf s) hi,
-        le-leb (delayOf s) (delayOf s + i) (omega arith),
-        eq-eqb (delayOf s + i) (delayOf s + i) refl,
-      )
+      entry-alpha-row s i (delayOf s + i) (omega arith) (omega arith) hi (omega arith)
+      ∙ rw (eq-eqb (delayOf s + i) (delayOf s + i) refl)
 
   -- 0 beside it
   pub entry-beside : (i j : ℕ) → i < dOf s → delayOf s ≤ j → j ≢ delayOf s + i → entry s i j ≡ 0

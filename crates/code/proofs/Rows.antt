@@ -33,7 +33,7 @@ unfolding _⊠_
 times-narrow a b = guarded (λ r. r < 16) a b (timesBits 4 a b) (lit< tt) (narrows .times-below a b)
 
 -- and so is a sum
-pub plus-narrow : (a b : ℕ) → a ⊞ b < 16
+plus-narrow : (a b : ℕ) → a ⊞ b < 16
 unfolding _⊞_
 plus-narrow a b = guarded (λ r. r < 16) a b _ (lit< tt) (narrows .plus-below a b)
 
@@ -72,6 +72,13 @@ point-le N i m = go (ltb m i) refl
     go false u = omega (arith, point-high N i m (ltb-false m i u))
 
 -- ---- the factors
+
+-- a narrow number's reciprocal by the quotient of 1: a quotient is the product with it
+pub factor-once : (i j p : ℕ) → (j ⊞ p) ⊠ narrowQuotient 1 (i ⊞ p) ≡ factor i j p
+unfolding factor narrowQuotient
+factor-once i j p =
+    ap (λ (x : ℕ). (j ⊞ p) ⊠ x)
+    (narrows .one-times (narrowReciprocal (i ⊞ p)) (narrows .reciprocal-below (i ⊞ p) (plus-narrow i p)))
 
 -- 0 at its point
 factor-zero : (i j : ℕ) → factor i j j ≡ 0

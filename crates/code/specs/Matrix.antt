@@ -1,9 +1,12 @@
 -- Document 01, "The matrix": the spread form, and the generator matrix G.
 use mathlib.Core.Bool.{cond, _&&_}
+use mathlib.Core.List.{List}
 use Prim.Native.Nat.{ℕ, zero, suc, _+_, _-_}
 use lib.Dec.{eqb, ltb, leb}
 use Rattle.galois.specs.Narrow.{_⊞_, _⊠_, narrowQuotient}
 use Rattle.galois.specs.Byte.{alpha, widen}
+use Rattle.galois.specs.Table.{table}
+use Rattle.galois.specs.declared.narrow.Gf16.{Gf16}
 use Rattle.code.specs.declared.settings.Settings.{Settings}
 use Rattle.code.specs.Settings.{delayOf, kOf, nOf, dOf}
 
@@ -19,6 +22,14 @@ factor i j p = narrowQuotient (j ⊞ p) (i ⊞ p)
 unfoldable pub product : ℕ → ℕ → ℕ → ℕ → ℕ
 product N i j zero = 1
 product N i j (suc m) = product N i j m ⊠ factor i j (point N i m)
+
+-- a number as an element of the field of sixteen
+abbrev pub gf16 : ℕ → Gf16
+gf16 a = record { 0 = a }
+
+-- the products over the first m zero points of row i, at positions 0 to 15
+unfoldable pub productRow : ℕ → ℕ → ℕ → List Gf16
+productRow N i m = table 16 (λ j. gf16 (product N i j m))
 
 -- the spread form: the product over all k - 1 zero points
 unfoldable pub spread : Settings → ℕ → ℕ → ℕ

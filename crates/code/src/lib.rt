@@ -1,7 +1,6 @@
-// The code: settings, the entries of the generator matrix, and its words.
+// The code: settings, the rows of the spread form, and the words of the generator matrix.
 mod matrix;
 mod settings;
 
-pub use matrix::entry;
-pub use matrix::spread_product;
+pub use matrix::spread_row;
 pub use settings::Settings;

@@ -1,11 +1,10 @@
-// The entries of the generator matrix G: products over zero points, with α times the identity in the rows below d.
-use crate::settings::Settings;
+// The rows of the spread form: products over zero points, at all positions at once.
 use galois::Gf16;
-use galois::Gf256;
 ghost use mathlib.Core.Path.{_≡_};
-ghost use Rattle.galois.specs.Byte.{widen};
-ghost use Rattle.galois.specs.Narrow.{_⊞_};
-ghost use Rattle.code.specs.Matrix.{point, factor, product, spread, alphaEntry, entry};
+ghost use lib.ListN.{getD};
+ghost use Rattle.galois.specs.Narrow.{_⊞_, _⊠_};
+ghost use Rattle.galois.specs.Table.{table};
+ghost use Rattle.code.specs.Matrix.{point, factor, gf16, productRow};
 
 // The m-th zero point of a row.
 fn zero_point(scattered: u8, row: u8, m: u8) -> u16
@@ -27,62 +26,29 @@ fn shifted(position: u8, point: u16) -> Gf16
     Gf16(position).sum(Gf16(point as u8))
 }
 
-fn point_factor(row: u8, position: u8, point: u16) -> Gf16
-    ensures { λ r. ⌜ r .0 ≡ factor row position point ⌝ }
+// Products at positions 0 to 15, each times the factor of one more point. The division, the same at every position, is done once.
+fn with_point(products: [Gf16; 16], row: u8, point: u16) -> [Gf16; 16]
+    ensures { λ r. ⌜ r ≡ table 16 (λ j. gf16 (getD products j (gf16 0) .0 ⊠ factor row j point)) ⌝ }
 {
-    shifted(position, point).quotient(shifted(row, point))
+    let divided = Gf16(1).quotient(shifted(row, point));
+    let mut out = products;
+    let mut j: u8 = 0;
+    while j < 16 {
+        let factor = shifted(j, point).product(divided);
+        out[j as usize] = products[j as usize].product(factor);
+        j += 1;
+    }
+    out
 }
 
-// The product over the first zero points of a row, as many as are asked for.
-pub fn spread_product(scattered: u8, row: u8, position: u8, points: u8) -> Gf16
-    ensures { λ r. ⌜ r .0 ≡ product scattered row position points ⌝ }
+// The products over the first zero points of a row, as many as are asked for.
+pub fn spread_row(scattered: u8, row: u8, points: u8) -> [Gf16; 16]
+    ensures { λ r. ⌜ r ≡ productRow scattered row points ⌝ }
 {
     if points == 0 {
-        return Gf16(1);
+        return [Gf16(1); 16];
     }
-    let last = zero_point(scattered, row, points - 1);
-    spread_product(scattered, row, position, points - 1).product(point_factor(row, position, last))
-}
-
-// The entry of G at a row and a position, and 0 outside G.
-pub fn entry(s: Settings, row: u8, position: u8) -> u8
-    ensures { λ r. ⌜ r ≡ entry s row position ⌝ }
-{
-    if s.sources() <= row as usize {
-        return 0;
-    }
-    if s.symbols() <= position as usize {
-        return 0;
-    }
-    if s.alpha_rows() <= row as usize {
-        return spread_entry(s, row, position);
-    }
-    let delay = s.effective_delay();
-    if position < delay {
-        return spread_entry(s, row, position);
-    }
-    alpha_entry(delay, row, position)
-}
-
-// α at position T + i of row i, and 0 beside it.
-fn alpha_entry(delay: u8, row: u8, position: u8) -> u8
-    ensures { λ r. ⌜ r ≡ alphaEntry delay row position ⌝ }
-{
-    if position as u16 == delay as u16 + row as u16 {
-        return Gf256::ALPHA.0;
-    }
-    0
-}
-
-// An entry of the spread form, widened.
-fn spread_entry(s: Settings, row: u8, position: u8) -> u8
-    ensures { λ r. ⌜ r ≡ widen (spread s row position) ⌝ }
-{
-    let delay = s.effective_delay();
-    if delay < s.scattered {
-        return spread_product(s.scattered, row, position, 0).widen().0;
-    }
-    spread_product(s.scattered, row, position, delay - s.scattered)
-        .widen()
-        .0
+    let fewer = points - 1;
+    let products = spread_row(scattered, row, fewer);
+    with_point(products, row, zero_point(scattered, row, fewer))
 }

@@ -1,5 +1,5 @@
 -- The systematic form by back substitution: each row is G's row with its later source symbols cancelled by the rows after it.
-use mathlib.Core.Path.{_≡_, refl, sym, ap, ap₂, _∙_, subst⁻¹}
+use mathlib.Core.Path.{_≡_, refl, sym, ap, ap₂, _∙_}
 use mathlib.Core.Bool.{Bool, true, false, cond}
 use mathlib.Core.List.{List, []}
 use mathlib.Core.Logic.{_⊎_, inl, inr, ⊎-elim}
@@ -17,13 +17,12 @@ use Rattle.galois.proofs.Cases.{le-or-lt}
 use Rattle.galois.proofs.Xor.{plus-below, plus-self, plus-zero}
 use Rattle.galois.proofs.ByteProduct.{times-below, times-comm, times-zero, zero-times, one-times}
 use Rattle.galois.proofs.Sums.{sum-equal, sum-zeros, sum-single, sum-below, sum-split}
-use Rattle.galois.proofs.Extension.{widen-below}
 use Rattle.code.specs.declared.settings.Settings.{Settings}
 use Rattle.code.specs.Settings.{kOf}
-use Rattle.code.specs.Matrix.{spread, entry}
+use Rattle.code.specs.Matrix.{entry}
 use Rattle.code.specs.Word.{wordAt, symbol, unit}
 use Rattle.code.proofs.Shape.{Shape}
-use Rattle.code.proofs.Entries.{entry-below, entry-spread-before, entry-zero-low, entry-zero-high, entry-one}
+use Rattle.code.proofs.Entries.{entry-below, entry-zero-low, entry-zero-high, entry-one}
 use Rattle.code.proofs.Words.{unit-self, unit-other, unit-below, word-of-unit, wordAt-plus, word-of-sum, word-equal}
 use Rattle.code.proofs.Systematic.{unit-multiplier, unit-multiplier-below, unit-source}
 use Rattle.generator.specs.Matrix.{generatorOf, bandEnd}
@@ -87,7 +86,7 @@ module _ (s : Settings) (h : Shape s) (i : ℕ) (hi : i < kOf s) where
 -- ---- the rows as lists
 
 -- an entry of G as it stands in its table
-pub generator-entry : (s : Settings) (g : List (List ℕ)) → g ≡ generatorOf s → (i q : ℕ) → i < 16 → q < 16
+generator-entry : (s : Settings) (g : List (List ℕ)) → g ≡ generatorOf s → (i q : ℕ) → i < 16 → q < 16
     → getD (getD g i []) q 0 ≡ entry s i q
 unfolding generatorOf
 generator-entry s g same i q hi hq =
@@ -110,12 +109,7 @@ band-end s i = go (ltb (kOf s) (i + s .scattered)) refl
     go false e = let h = ltb-false (kOf s) (i + s .scattered) e in (omega arith, omega arith, inr (omega arith))
 
 module _ (s : Settings) (h : Shape s) (i : ℕ) (hi : i < kOf s) where
-  -- a row's source symbols are narrow
-  pub source-narrow : (q : ℕ) → q < kOf s → entry s i q < 16
-  source-narrow q hq =
-      subst⁻¹ (λ (x : ℕ). x < 16) (entry-spread-before s i q hi (omega arith) (omega arith)) (widen-below (spread s i q))
-
-  -- and 0 from the end on
+  -- a row's source symbols are 0 from the end on
   past-end : (q : ℕ) → bandEnd s i ≤ q → q < kOf s → entry s i q ≡ 0
   past-end q low high =
       ⊎-elim (λ all. omega arith)

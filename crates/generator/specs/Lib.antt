@@ -1,3 +1,2 @@
--- The generator matrix as rows, and the products that its rows are made of.
+-- The generator matrix as rows, and where the source symbols of a row end.
 pub mod Matrix
-pub mod Span

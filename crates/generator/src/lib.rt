@@ -1,7 +1,5 @@
-// The generator matrix, whole rows at once, and its systematic form.
+// The generator matrix and its systematic form.
 mod encoder;
 mod matrix;
-mod narrow;
-mod tables;
 
 pub use encoder::systematic;

@@ -58,7 +58,7 @@ loop-again c =
     let f : ℕ → ℕ → ℕ = reached (a .t1) (now (a .done)) (a .i) in (
       omega arith,
       omega arith,
-      c .plus-narrow .ensures
+      c .plus-multiple .ensures
           ∙ table-equal 16 (λ p. getD (at .out) p 0 ⊕ getD (a .t1) (at .m) 0 ⊗ getD (getD (now (a .done)) (at .m) []) p 0) (f (at .m + 1))
           (λ p h.
           ap (λ (x : ℕ). x ⊕ getD (a .t1) (at .m) 0 ⊗ getD (getD (now (a .done)) (at .m) []) p 0)
@@ -73,11 +73,6 @@ returns c =
     let all : at .m ≡ a .end = omega arith in
     at .inv .2 ∙ ap (λ (m : ℕ). table 16 (reached (a .t1) (now (a .done)) (a .i) m)) all
 
-plus-narrow-requires : tie.Need-plus-narrow-requires Inv-loop μ-loop
-plus-narrow-requires c κs =
-    let at = c .before .before .loop in
-    c .before .before .before .pre .2 (at .m) (omega arith) (omega arith)
-
 pub cancelled-spec : {M : Type 1} → statement M
 cancelled-spec =
     tie.close
@@ -89,7 +84,7 @@ cancelled-spec =
     (λ c. omega arith)
     (λ c. omega arith)
     (λ c. omega arith)
-    plus-narrow-requires
+    (λ c κs. tt)
     (λ c. omega arith)
     (λ c. omega arith)
     loop-again

@@ -14,7 +14,7 @@ use Rattle.code.proofs.Shape.{Shape, shape}
 use Rattle.galois.proofs.ByIndex.{is-table, getD-table, table-equal}
 use Rattle.code.proofs.Systematic.{unit-outside, systematic-accepted, systematic-refused}
 use Rattle.generator.proofs.Filled.{filled-before}
-use Rattle.generator.proofs.BackSubstitution.{generator-entry, band-end, source-narrow, row-done}
+use Rattle.generator.proofs.BackSubstitution.{band-end, row-done}
 use Rattle.generator.proofs.encoder.systematic.Statement.{statement}
 use Rattle.generator.proofs.encoder.systematic.Tie as tie
 
@@ -52,16 +52,9 @@ cancelled-requires c κs =
     let at = at-loop .loop in
     let at-generator = at-loop .before .before in
     let s = at-generator .before .before .before .args .s in
-    let shaped = at .inv .0 in
     let j : ℕ = at .i - 1 in
-    let ends = band-end s j in (
-      ⊎-elim (λ k. omega arith) (λ k. omega arith) (ends .2),
-      omega arith,
-      λ m low high.
-          subst⁻¹ (λ (x : ℕ). x < 16)
-          (generator-entry s (at-generator .generator .result) (at-generator .generator .ensures) j m (omega arith) (omega arith))
-          (source-narrow s shaped j (omega arith) m (omega arith)),
-    )
+    let ends = band-end s j in
+    (⊎-elim (λ k. omega arith) (λ k. omega arith) (ends .2), omega arith)
 
 loop-again : tie.Need-loop-again Inv-loop μ-loop
 loop-again c =

@@ -4,9 +4,9 @@ use native.Mathlib.Omega.{arith}
 use Prim.Native.Nat.{_+_}
 use borrow.Author.Tests.{eq-eqb, ne-eqb}
 use Rattle.galois.specs.Byte.{alpha}
 use Rattle.code.specs.Matrix.{alphaEntry}
-use Rattle.code.proofs.matrix.alpha_entry.Statement.{statement}
-use Rattle.code.proofs.matrix.alpha_entry.Tie as tie
+use Rattle.generator.proofs.matrix.alpha_entry.Statement.{statement}
+use Rattle.generator.proofs.matrix.alpha_entry.Tie as tie
 
 returns : tie.Need-returns
 unfolding alphaEntry alpha
