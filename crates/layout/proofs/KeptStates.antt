@@ -1,21 +1,22 @@
--- What is read back from a state that was written, and what the bytes of a kept state are.
-use mathlib.Core.Path.{_≡_, refl, sym, subst⁻¹}
-use mathlib.Core.Bool.{Bool, true, _&&_}
+-- What is read back from a state that was written, and what the causes of a state say.
+use mathlib.Core.Path.{_≡_, refl, sym}
+use mathlib.Core.Bool.{Bool, true, false, not}
 use mathlib.Core.List.{List}
 use native.Mathlib.Nat.{div-add-mod', div-div-eq-div-mul, div-lt-iff-lt-mul, mod-eq-of-lt}
 use native.Mathlib.Omega.{arith}
 use Prim.Native.Nat.{ℕ, _+_, _*_, _/_, _%_, _≤_, _<_}
-use lib.Dec.{T, eqb, leb, eqb→eq, leb→le, le→leb}
+use lib.Dec.{eqb, eqb→eq}
 use lib.ListN.{length}
 use borrow.Author.Tests.{eq-eqb}
 use Rattle.galois.specs.Bounded.{every}
-use Rattle.galois.proofs.Cases.{is-true, and-left, and-right}
 use Rattle.code.specs.declared.settings.Settings.{Settings}
-use Rattle.code.specs.Settings.{accepted}
+use Rattle.protocol.specs.declared.Cause.{Cause}
+use Rattle.protocol.specs.declared.Cause.the-variants.{BadSettings, BadLength}
 use Rattle.protocol.specs.Lengths.{lastSlot}
 use Rattle.protocol.specs.Frame.{five, slotBytes}
-use Rattle.protocol.specs.Causes.{agree}
-use Rattle.layout.specs.State.{markOf, stateBytes, stateLen, settingsAt, slotAt, senderIn, receiverIn, kept}
+use Rattle.protocol.specs.Causes.{Found, nothing, cause, check, agree}
+use Rattle.protocol.proofs.CauseTables.{check-nothing, passes}
+use Rattle.layout.specs.State.{markOf, stateBytes, stateLen, settingsAt, slotAt, senderIn, receiverIn, stateCause}
 use Rattle.layout.proofs.StateBytes.{length-state}
 
 -- ---- reading back what was written
@@ -31,30 +32,21 @@ four-bytes t few =
 
 module _ (end : ℕ) (s : Settings) (due : ℕ) where
   pub settings-read : settingsAt 4 (stateBytes end s due) ≡ s
-  unfolding settingsAt markOf five slotBytes stateBytes
+  unfolding settingsAt five slotBytes stateBytes
   settings-read = refl
 
   pub slot-read : due ≤ lastSlot + 1 → slotAt 9 (stateBytes end s due) ≡ due
-  unfolding slotAt markOf five slotBytes stateBytes lastSlot
+  unfolding slotAt five slotBytes stateBytes lastSlot
   slot-read few = four-bytes due (omega arith)
 
   marked : agree 4 (stateBytes end s due) (markOf end) ≡ true
-  unfolding agree every markOf five slotBytes stateBytes
+  unfolding agree every five slotBytes stateBytes
   marked = rw (eq-eqb end end refl) refl
 
-  -- so a state that was written is kept
-  pub state-kept : T (accepted s) → due ≤ lastSlot + 1 → kept end (stateBytes end s due) ≡ true
-  unfolding kept
-  state-kept ok few =
-      rw (
-        eq-eqb _ _ (length-state end s due),
-        marked,
-        settings-read,
-        is-true (accepted s) ok,
-        slot-read few,
-        is-true (leb due (lastSlot + 1)) (le→leb due (lastSlot + 1) few),
-      )
-      refl
+  -- so a state that was written gives no cause
+  pub state-uncaused : stateCause end (stateBytes end s due) nothing ≡ nothing
+  unfolding stateCause
+  state-uncaused = rw (eq-eqb _ _ (length-state end s due), marked)
 
   -- and keeps the sender
   pub sender-in-state : due ≤ lastSlot + 1 → senderIn (stateBytes end s due) ≡ record { settings = s; due = due }
@@ -66,32 +58,43 @@ module _ (end : ℕ) (s : Settings) (due : ℕ) where
   unfolding receiverIn
   receiver-in-state few = rw (settings-read, slot-read few) refl
 
--- ---- a kept state
+-- ---- the causes that a state gives
 
-module _ (end : ℕ) (state : List ℕ) (is : kept end state ≡ true) where
-  abbrev sized : Bool
-  sized = eqb (length state) stateLen
+module _ (end : ℕ) (state : List ℕ) where
+  abbrev otherLength : Bool
+  otherLength = not (eqb (length state) stateLen)
 
-  abbrev named : Bool
-  named = agree 4 state (markOf end)
+  abbrev otherMark : Bool
+  otherMark = not (agree 4 state (markOf end))
 
-  abbrev settled : Bool
-  settled = accepted (settingsAt 4 state)
+  -- where nothing is found, neither holds, and the rest finds nothing
+  none-holds : (rest : Found) → stateCause end state rest ≡ nothing → (otherLength ≡ false) × (otherMark ≡ false) × (rest ≡ nothing)
+  unfolding stateCause
+  none-holds rest e =
+      let sized = check-nothing otherLength BadLength (check otherMark BadSettings rest) e in
+      let named = check-nothing otherMark BadSettings rest (sized .1) in
+      (sized .0, named .0, named .1)
 
-  abbrev counted : Bool
-  counted = leb (slotAt 9 state) (lastSlot + 1)
+  pub uncaused-after : (rest : Found) → stateCause end state rest ≡ nothing → rest ≡ nothing
+  uncaused-after rest e = none-holds rest e .2
 
-  all : T (sized && named && settled && counted)
-  unfolding kept
-  all = subst⁻¹ T is tt
+  module _ (none : stateCause end state nothing ≡ nothing) where
+    -- a state that gives none has its length
+    pub uncaused-length : length state ≡ stateLen
+    uncaused-length = eqb→eq (length state) stateLen (passes (eqb (length state) stateLen) (none-holds nothing none .0))
 
-  pub kept-length : length state ≡ stateLen
-  kept-length =
-      eqb→eq (length state) stateLen
-      (and-left sized named (and-left (sized && named) settled (and-left (sized && named && settled) counted all)))
+    -- and the rest of the table decides
+    pub uncaused-rest : (rest : Found) → stateCause end state rest ≡ rest
+    unfolding stateCause
+    uncaused-rest rest = rw (none-holds nothing none .0, none-holds nothing none .1)
 
-  pub kept-settings : T (accepted (settingsAt 4 state))
-  kept-settings = and-right (sized && named) settled (and-left (sized && named && settled) counted all)
-
-  pub kept-slot : slotAt 9 state ≤ lastSlot + 1
-  kept-slot = leb→le (slotAt 9 state) (lastSlot + 1) (and-right (sized && named && settled) counted all)
+  -- where a state gives a cause, the rest of the table is not looked at
+  pub caused-rest : (c : Cause) → stateCause end state nothing ≡ cause c → (rest : Found) → stateCause end state rest ≡ cause c
+  unfolding stateCause
+  caused-rest c e rest = go otherLength otherMark e
+    where
+      go : (p q : Bool) → check p BadLength (check q BadSettings nothing) ≡ cause c
+          → check p BadLength (check q BadSettings rest) ≡ cause c
+      go true q e = e
+      go false true e = e
+      go false false e = cc

@@ -9,7 +9,7 @@ use Rattle.protocol.specs.Frame.{five, slotBytes}
 use Rattle.layout.specs.State.{markOf, stateBytes, stateLen}
 
 pub length-state : (end : ℕ) (s : Settings) (due : ℕ) → length (stateBytes end s due) ≡ stateLen
-unfolding markOf five slotBytes stateBytes
+unfolding five slotBytes stateBytes
 length-state end s due = refl
 
 -- bytes as long as the slice that they are written over are all that is left

@@ -1,7 +1,7 @@
 -- The number of each reply, and which replies are of a call that was taken. 7 to 15 are left free for causes to come.
-use mathlib.Core.Bool.{Bool, true, false, _&&_, _||_}
+use mathlib.Core.Bool.{Bool, true, false, not, _&&_}
 use Prim.Native.Nat.{ℕ}
-use lib.Dec.{eqb, leb}
+use lib.Dec.{leb}
 use Rattle.protocol.specs.declared.Answer.{Answer}
 use Rattle.protocol.specs.declared.Answer.the-variants as answer
 use Rattle.protocol.specs.declared.Reply.{Reply}
@@ -21,15 +21,15 @@ replyNumber reply.Whole = 17
 replyNumber reply.Lost = 18
 replyNumber reply.Clash = 19
 
--- the reply to bytes that are no state
-abbrev pub noState : ℕ
-noState = 64
-
 -- whether an opening or a send was accepted; `accepts` of protocol's specs/Claim.antt says it of a report
 abbrev pub taken : Answer → Bool
 taken answer.Accepted = true
 taken (answer.Refused c) = false
 
--- the numbers of a refusal: a cause's, 1 to 6, and that of bytes that are no state
-unfoldable pub refusal : ℕ → Bool
-refusal n = (leb 1 n && leb n 6) || eqb n noState
+-- the numbers of a refusal: a cause's, 1 to 6
+abbrev pub refusal : ℕ → Bool
+refusal n = leb 1 n && leb n 6
+
+-- and all others are of a call that was accepted
+abbrev pub acceptance : ℕ → Bool
+acceptance n = not (refusal n)

@@ -1,16 +1,15 @@
 -- The state that the static library's callers keep between calls, as 13 bytes.
-use mathlib.Core.Bool.{Bool, cond, _&&_}
+use mathlib.Core.Bool.{Bool, cond, not}
 use mathlib.Core.List.{List, [], _∷_, _++_}
 use Prim.Native.Nat.{ℕ, _+_, _*_}
-use lib.Dec.{eqb, leb}
+use lib.Dec.{eqb}
 use lib.ListN.{getD, length}
 use Rattle.code.specs.declared.settings.Settings.{Settings}
-use Rattle.code.specs.Settings.{accepted}
 use Rattle.protocol.specs.declared.Sender.{Sender}
 use Rattle.protocol.specs.declared.Receiver.{Receiver}
-use Rattle.protocol.specs.Lengths.{lastSlot}
+use Rattle.protocol.specs.declared.Cause.the-variants.{BadSettings, BadLength}
 use Rattle.protocol.specs.Frame.{five, slotBytes}
-use Rattle.protocol.specs.Causes.{agree}
+use Rattle.protocol.specs.Causes.{Found, check, agree}
 
 -- ---- what is written
 
@@ -23,7 +22,7 @@ abbrev pub receiverEnd : ℕ
 receiverEnd = 0x52
 
 -- the mark of a state: `TOB` and the end's letter
-unfoldable pub markOf : ℕ → List ℕ
+abbrev pub markOf : ℕ → List ℕ
 markOf end = 0x54 ∷ 0x4f ∷ 0x42 ∷ end ∷ []
 
 -- a state: its mark, W, T, B, N and L, and the slot due, high byte first
@@ -63,9 +62,12 @@ senderIn state = record { settings = settingsAt 4 state; due = slotAt 9 state }
 unfoldable pub receiverIn : List ℕ → Receiver
 receiverIn state = record { settings = settingsAt 4 state; due = slotAt 9 state }
 
--- a state of this end, as an opening or a later call writes it: 13 bytes, the mark, settings that are accepted, and a slot due that is
--- at most the one after the last
-unfoldable pub kept : ℕ → List ℕ → Bool
-kept end state =
-    eqb (length state) stateLen && agree 4 state (markOf end) && accepted (settingsAt 4 state)
-    && leb (slotAt 9 state) (lastSlot + 1)
+-- ---- what a state is refused for
+
+-- the causes that a state's bytes give, before those that the call finds in what they keep: at another length no settings can be read, so
+-- that is 2; with another mark it holds no settings of this end, so that is 1
+unfoldable pub stateCause : ℕ → List ℕ → Found → Found
+stateCause end state rest =
+    check (not (eqb (length state) stateLen)) BadLength
+    (check (not (agree 4 state (markOf end))) BadSettings
+    rest)

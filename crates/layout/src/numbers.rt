@@ -8,7 +8,7 @@ ghost use Rattle.protocol.specs.Claim.{accepts};
 ghost use Rattle.layout.specs.Numbers.{answerNumber, replyNumber, taken};
 
 // Document 01's number for a cause.
-fn number_of(c: Cause) -> u32
+pub fn number_of(c: Cause) -> u32
     ensures { λ r. ⌜ r ≡ numberOf c ⌝ }
 {
     match c {

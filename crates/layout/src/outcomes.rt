@@ -3,6 +3,7 @@ use crate::numbers::answer_number;
 use crate::numbers::answer_taken;
 use crate::numbers::reply_number;
 use crate::numbers::reply_taken;
+use crate::state::RECEIVER_END;
 use crate::state::save;
 use code::Settings;
 use protocol::Answer;
@@ -11,11 +12,11 @@ ghost use mathlib.Core.Path.{_≡_};
 ghost use lib.ListN.{length};
 ghost use Rattle.protocol.specs.Claim.{accepts};
 ghost use Rattle.layout.specs.Numbers.{answerNumber, replyNumber, taken};
-ghost use Rattle.layout.specs.State.{receiverEnd, saved};
+ghost use Rattle.layout.specs.State.{receiverEnd, stateLen, saved};
 
 // After an opening or a send.
 pub fn save_answer(answer: Answer, end: u8, s: Settings, due: u32, state: &mut [u8]) -> u32
-    requires { ⌜ length (now state) ≡ 13 ⌝ }
+    requires { ⌜ length (now state) ≡ stateLen ⌝ }
     ensures { λ r. ⌜ (r ≡ answerNumber answer) × (now (state .exit) ≡ saved (taken answer) end s due (now (state .entry))) ⌝ }
 {
     save(answer_taken(answer), end, s, due, state);
@@ -24,9 +25,9 @@ pub fn save_answer(answer: Answer, end: u8, s: Settings, due: u32, state: &mut [
 
 // After a report.
 pub fn save_reply(reply: Reply, s: Settings, due: u32, state: &mut [u8]) -> u32
-    requires { ⌜ length (now state) ≡ 13 ⌝ }
+    requires { ⌜ length (now state) ≡ stateLen ⌝ }
     ensures { λ r. ⌜ (r ≡ replyNumber reply) × (now (state .exit) ≡ saved (accepts reply) receiverEnd s due (now (state .entry))) ⌝ }
 {
-    save(reply_taken(reply), 0x52, s, due, state);
+    save(reply_taken(reply), RECEIVER_END, s, due, state);
     reply_number(reply)
 }

@@ -7,7 +7,16 @@ ghost use mathlib.Core.Path.{_≡_};
 ghost use Prim.Native.Nat.{_+_, _*_, _≤_};
 ghost use lib.ListN.{length};
 ghost use Rattle.protocol.specs.Causes.{agree};
-ghost use Rattle.layout.specs.State.{markOf, stateBytes, saved, settingsAt, slotAt, senderIn, receiverIn, kept};
+ghost use Rattle.layout.specs.State.{markOf, stateBytes, stateLen, saved, settingsAt, slotAt, senderIn, receiverIn};
+
+// The length of a state.
+pub const STATE_LEN: usize = 13;
+
+// The letter of the end that a state is of: `S` for a sender.
+pub const SENDER_END: u8 = 0x53;
+
+// And `R` for a receiver.
+pub const RECEIVER_END: u8 = 0x52;
 
 // W, T, B, N and L, from the place `start`.
 pub fn settings_at(bytes: &[u8], start: usize) -> Settings
@@ -45,7 +54,7 @@ fn slot_at(bytes: &[u8], start: usize) -> u32
 
 // The sender that a state keeps.
 pub fn sender_in(state: &[u8]) -> Sender
-    requires { ⌜ 13 ≤ length (now state) ⌝ }
+    requires { ⌜ stateLen ≤ length (now state) ⌝ }
     ensures { λ r. ⌜ r ≡ senderIn (now (state .entry)) ⌝ }
 {
     Sender {
@@ -56,7 +65,7 @@ pub fn sender_in(state: &[u8]) -> Sender
 
 // The receiver that a state keeps.
 pub fn receiver_in(state: &[u8]) -> Receiver
-    requires { ⌜ 13 ≤ length (now state) ⌝ }
+    requires { ⌜ stateLen ≤ length (now state) ⌝ }
     ensures { λ r. ⌜ r ≡ receiverIn (now (state .entry)) ⌝ }
 {
     Receiver {
@@ -65,48 +74,39 @@ pub fn receiver_in(state: &[u8]) -> Receiver
     }
 }
 
+// The mark of a state of this end.
+fn mark_of(end: u8) -> [u8; 4]
+    ensures { λ r. ⌜ r ≡ markOf end ⌝ }
+{
+    [0x54, 0x4f, 0x42, end]
+}
+
 // Whether the bytes begin with the mark of this end.
-fn is_marked(end: u8, bytes: &[u8]) -> bool
+pub(crate) fn is_marked(end: u8, bytes: &[u8]) -> bool
     requires { ⌜ 4 ≤ length (now bytes) ⌝ }
     ensures { λ r. ⌜ r ≡ agree 4 (now (bytes .entry)) (markOf end) ⌝ }
 {
-    if bytes[0] != 0x54 {
-        return false;
+    let mark = mark_of(end);
+    let mut i: usize = 0;
+    while i < 4 {
+        if bytes[i] != mark[i] {
+            return false;
+        }
+        i += 1;
     }
-    if bytes[1] != 0x4f {
-        return false;
-    }
-    if bytes[2] != 0x42 {
-        return false;
-    }
-    bytes[3] == end
-}
-
-// Whether the bytes are a state of this end.
-pub fn is_kept(end: u8, state: &[u8]) -> bool
-    ensures { λ r. ⌜ r ≡ kept end (now (state .entry)) ⌝ }
-{
-    if state.len() != 13 {
-        return false;
-    }
-    if !is_marked(end, state) {
-        return false;
-    }
-    if !settings_at(state, 4).accepted() {
-        return false;
-    }
-    slot_at(state, 9) <= 4_000_000_000
+    true
 }
 
 // A state, byte by byte.
-fn state_bytes(end: u8, s: Settings, due: u32) -> [u8; 13]
+fn state_bytes(end: u8, s: Settings, due: u32) -> [u8; STATE_LEN]
     ensures { λ r. ⌜ r ≡ stateBytes end s due ⌝ }
 {
+    let mark = mark_of(end);
     [
-        0x54,
-        0x4f,
-        0x42,
-        end,
+        mark[0],
+        mark[1],
+        mark[2],
+        mark[3],
         s.window,
         s.delay,
         s.burst,
@@ -121,7 +121,7 @@ fn state_bytes(end: u8, s: Settings, due: u32) -> [u8; 13]
 
 // Writes the state where the call was taken; else it stays as it was.
 pub(crate) fn save(taken: bool, end: u8, s: Settings, due: u32, state: &mut [u8])
-    requires { ⌜ length (now state) ≡ 13 ⌝ }
+    requires { ⌜ length (now state) ≡ stateLen ⌝ }
     ensures { λ _. ⌜ now (state .exit) ≡ saved taken end s due (now (state .entry)) ⌝ }
 {
     if taken {

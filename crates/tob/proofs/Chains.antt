@@ -1,12 +1,13 @@
--- What a call reads is what the call before it wrote, so a list of the library's calls is protocol's.
+-- What a call reads is what the call before it wrote, so a list of the library's calls is protocol's, call by call.
 use mathlib.Core.Path.{_≡_, refl, sym, ap, _∙_, subst, subst⁻¹}
-use mathlib.Core.Bool.{Bool, true}
-use mathlib.Core.List.{List, [], _∷_}
+use mathlib.Core.Bool.{Bool, true, cond}
+use mathlib.Core.List.{List, [], _∷_, Forall₂, Forall₂·nil, Forall₂·cons}
 use native.Mathlib.Omega.{arith}
 use Prim.Native.Nat.{ℕ, _+_, _≤_}
 use lib.Dec.{T}
 use lib.ListN.{length, drop}
 use Rattle.galois.proofs.Cases.{is-true}
+use Rattle.code.specs.declared.settings.Settings.{Settings}
 use Rattle.code.specs.Settings.{accepted}
 use Rattle.protocol.specs.declared.Sender.{Sender}
 use Rattle.protocol.specs.declared.Receiver.{Receiver}
@@ -15,191 +16,233 @@ use Rattle.protocol.specs.Causes.{Found, nothing, cause, lossCause, frameCause}
 use Rattle.protocol.specs.Lengths.{lastSlot, senderLen, receiverLen}
 use Rattle.protocol.specs.Calls.{OpenedSender, OpenedReceiver, Sent, Reported, openSenderOf, openReceiverOf, sendOf, movedOn, lossOf, heardOf}
 use Rattle.protocol.specs.Claim.{accepts}
-use Rattle.protocol.specs.TwoLists.{Send, sends, Report, heard, missed, reportOf, reports}
+use Rattle.protocol.specs.TwoLists.{Send, SendMade, sends, Report, heard, missed, reportOf, ReportMade, reports}
+use Rattle.protocol.proofs.CauseTables.{open-nothing}
 use Rattle.protocol.proofs.Sending as sending
 use Rattle.protocol.proofs.ReportCauses.{loss-open, frame-open}
 use Rattle.protocol.proofs.ReportRows.{moved-accepts}
-use Rattle.protocol.proofs.ReportSteps.{refusal, heard-moves, heard-stays, loss-moves, loss-stays}
+use Rattle.protocol.proofs.ReportSteps as steps
 use Rattle.protocol.proofs.ReportChain as reporting
-use Rattle.layout.specs.State.{senderEnd, receiverEnd, saved, stateLen, settingsAt, senderIn, receiverIn, kept}
-use Rattle.layout.proofs.KeptStates.{state-kept, sender-in-state, receiver-in-state, kept-settings}
-use Rattle.tob.specs.Calls.{Opening, openedSender, openSenderBytes, openedReceiver, openReceiverBytes, Sending, sentBytes, sendBytes, Reporting, reportedBytes}
-use Rattle.tob.specs.Chains.{sendsBytes, sentAll, reportBytes, reportsBytes, reportedAll}
-use Rattle.tob.proofs.Outcomes.{sender-room, receiver-room, send-kept, heard-kept, lost-kept}
+use Rattle.layout.specs.State.{senderEnd, receiverEnd, stateBytes, saved, stateLen, settingsAt, senderIn, receiverIn, stateCause}
+use Rattle.layout.specs.Numbers.{answerNumber, replyNumber}
+use Rattle.layout.proofs.KeptStates.{state-uncaused, sender-in-state, receiver-in-state}
+use Rattle.layout.proofs.Refusals.{cause-refused, reply-accepted}
+use Rattle.tob.specs.Calls.{settingsOf, Opening, openSenderBytes, openReceiverBytes, Sending, sendBytes, Reporting}
+use Rattle.tob.specs.Chains.{dueAfter, SendDone, sendsBytes, reportBytes, ReportDone, reportsBytes}
+use Rattle.tob.proofs.Outcomes.{senderLeft, sender-uncaused, receiverLeft, receiver-uncaused, sendLeft, send-uncaused, reportLeft, heard-uncaused, lost-uncaused}
 
 -- ---- the sender
 
 -- the bytes are a sender's state, and keep this sender
 pub record KeepsSender (state : List ℕ) (x : Sender) : Type 0 where
-  pub is-kept : kept senderEnd state ≡ true
+  pub uncaused : stateCause senderEnd state nothing ≡ nothing
   pub reads : senderIn state ≡ x
 
--- an opening with accepted settings and exact lengths is accepted, and the next call reads the sender that it opened
-pub opened-sender-read : (settings state rows : List ℕ) → T (accepted (settingsAt 0 settings)) → length state ≡ stateLen
-    → length rows ≡ senderLen (settingsAt 0 settings)
+-- a state that was written keeps what it was written from
+kept-sender : (s : Settings) (due : ℕ) → due ≤ lastSlot + 1 → KeepsSender (stateBytes senderEnd s due) (record { settings = s; due = due })
+kept-sender s due few = record { uncaused = state-uncaused senderEnd s due; reads = sender-in-state senderEnd s due few }
+
+-- an opening with accepted settings and exact lengths replies 0, and the next call reads the sender that it opened
+pub opened-sender-read : (settings state rows : List ℕ) → T (accepted (settingsOf settings)) → length state ≡ stateLen
+    → length rows ≡ senderLen (settingsOf settings)
     → let b : Opening = openSenderBytes settings state rows in
-    let r : OpenedSender = openSenderOf (settingsAt 0 settings) rows in
+    let r : OpenedSender = openSenderOf (settingsOf settings) rows in
     (b .reply ≡ 0) × (b .rows ≡ r .rows) × KeepsSender (b .state) (r .sender)
-unfolding openedSender lastSlot
+unfolding settingsOf
 opened-sender-read settings state rows ok room full =
-    let s = settingsAt 0 settings in
+    let s : Settings = settingsAt 0 settings in
     subst
     (λ (b : Opening).
     (b .reply ≡ 0) × (b .rows ≡ openSenderOf s rows .rows) × KeepsSender (b .state) (openSenderOf s rows .sender))
-    (sender-room settings state rows room)
+    (sender-uncaused settings state rows (open-nothing s stateLen state ok room))
     (subst⁻¹
     (λ (r : OpenedSender).
-    (openedSender state r .reply ≡ 0) × (openedSender state r .rows ≡ r .rows) × KeepsSender (openedSender state r .state) (r .sender))
+    (senderLeft state r .reply ≡ 0) × (senderLeft state r .rows ≡ r .rows) × KeepsSender (senderLeft state r .state) (r .sender))
     (sending.opened-sender s rows ok full)
-    (refl, refl, record { is-kept = state-kept senderEnd s 0 ok (omega arith); reads = sender-in-state senderEnd s 0 (omega arith) }))
+    (refl, refl, kept-sender s 0 (omega arith)))
 
-module _ (state rows message frame : List ℕ) (is : kept senderEnd state ≡ true) where
+-- a send by the library: what it leaves, the sender that the next call reads, and the slot due then
+pub record SendStep (state rows message frame : List ℕ) (x : Sender) : Type 0 where
+  pub same : sendBytes state rows message frame ≡ sendLeft state (sendOf x rows message frame)
+  pub next : KeepsSender (sendBytes state rows message frame .state) (sendOf x rows message frame .sender)
+  pub due : sendOf x rows message frame .sender .due ≡ dueAfter (x .due) (sendBytes state rows message frame .reply)
+
+module _ (state rows message frame : List ℕ) (none : stateCause senderEnd state nothing ≡ nothing) where
   abbrev x : Sender
   x = senderIn state
 
+  abbrev Next : Sent → Type 0
+  Next r = KeepsSender (sendLeft state r .state) (r .sender) × (r .sender .due ≡ dueAfter (x .due) (sendLeft state r .reply))
+
   -- by whether the send is taken
-  sent-read : sending.SendCase x rows message frame
-      → KeepsSender (sentBytes state (sendOf x rows message frame) .state) (sendOf x rows message frame .sender)
-  unfolding sentBytes
-  sent-read (sending.taken h e) =
-      subst⁻¹ (λ (r : Sent). KeepsSender (sentBytes state r .state) (r .sender)) e
-      (record {
-        is-kept = state-kept senderEnd (x .settings) (x .due + 1) (h .settled) (omega (arith, h .in-time));
-        reads = sender-in-state senderEnd (x .settings) (x .due + 1) (omega (arith, h .in-time));
-      })
-  sent-read (sending.refused c _ e) =
-      subst⁻¹ (λ (r : Sent). KeepsSender (sentBytes state r .state) (r .sender)) e (record { is-kept = is; reads = refl })
+  sent-next : sending.SendCase x rows message frame → Next (sendOf x rows message frame)
+  sent-next (sending.taken h e) = subst⁻¹ Next e (kept-sender (x .settings) (x .due + 1) (omega (arith, h .in-time)), refl)
+  sent-next (sending.refused c _ e) =
+      subst⁻¹ Next e (record { uncaused = none; reads = refl }, ap (λ (t : Bool). cond t (x .due + 1) (x .due)) (sym (cause-refused c)))
 
--- a send is protocol's of the sender that the state keeps
-pub send-read : (state rows message frame : List ℕ) (x : Sender) → KeepsSender state x
-    → sendBytes state rows message frame ≡ sentBytes state (sendOf x rows message frame)
-send-read state rows message frame x k =
-    sym (send-kept state rows message frame (k .is-kept))
-    ∙ ap (λ (y : Sender). sentBytes state (sendOf y rows message frame)) (k .reads)
+  -- a send of the sender that the state keeps is protocol's
+  sent-step : SendStep state rows message frame x
+  sent-step =
+      let same = sym (send-uncaused state rows message frame none) in
+      let next = sent-next (sending.send-case x rows message frame) in
+      record {
+        same = same;
+        next = subst⁻¹ (λ (b : Sending). KeepsSender (b .state) (sendOf x rows message frame .sender)) same (next .0);
+        due = next .1 ∙ ap (λ (b : Sending). dueAfter (x .due) (b .reply)) (sym same);
+      }
 
--- and the next call reads the sender that it left
-pub sender-read : (state rows message frame : List ℕ) (x : Sender) → KeepsSender state x
-    → KeepsSender (sendBytes state rows message frame .state) (sendOf x rows message frame .sender)
-sender-read state rows message frame x k =
-    subst (λ (y : Sender). KeepsSender (sendBytes state rows message frame .state) (sendOf y rows message frame .sender)) (k .reads)
-    (subst (λ (b : Sending). KeepsSender (b .state) (sendOf (senderIn state) rows message frame .sender))
-    (send-kept state rows message frame (k .is-kept))
-    (sent-read state rows message frame (k .is-kept) (sending.send-case (senderIn state) rows message frame)))
+pub send-step : (state rows message frame : List ℕ) (x : Sender) → KeepsSender state x → SendStep state rows message frame x
+send-step state rows message frame x k =
+    subst (SendStep state rows message frame) (k .reads) (sent-step state rows message frame (k .uncaused))
+
+-- the library's send and protocol's: for the same slot, with the same call, and alike in what the caller sees
+pub record SameSend (m : SendMade) (b : SendDone) : Type 0 where
+  pub due : b .due ≡ m .before .due
+  pub call : b .call ≡ m .call
+  pub reply : b .after .reply ≡ answerNumber (m .after .answer)
+  pub frame : b .after .frame ≡ m .after .frame
 
 -- so a list of sends is protocol's
-pub sends-read : (calls : List Send) (state rows : List ℕ) (x : Sender) → KeepsSender state x
-    → sendsBytes state rows calls ≡ sentAll state (sends x rows calls)
-unfolding sendsBytes sentAll sends sentBytes
-sends-read [] state rows x k = refl
-sends-read (c ∷ cs) state rows x k =
+pub sends-read : (calls : List Send) (due : ℕ) (state rows : List ℕ) (x : Sender) → KeepsSender state x → x .due ≡ due
+    → Forall₂ SameSend (sends x rows calls) (sendsBytes due state rows calls)
+unfolding sendsBytes sends
+sends-read [] due state rows x k e = Forall₂·nil
+sends-read (c ∷ cs) due state rows x k e =
     let b : Sending = sendBytes state rows (c .message) (c .frame) in
     let r : Sent = sendOf x rows (c .message) (c .frame) in
-    let same : b ≡ sentBytes state r = send-read state rows (c .message) (c .frame) x k in
-    ap (λ (l : List Sending). b ∷ l)
-    (sends-read cs (b .state) (b .rows) (r .sender) (sender-read state rows (c .message) (c .frame) x k))
-    ∙ ap (λ (y : Sending). y ∷ sentAll (y .state) (sends (r .sender) (y .rows) cs)) same
+    let step = send-step state rows (c .message) (c .frame) x k in
+    Forall₂·cons
+    (record {
+      due = sym e;
+      call = refl;
+      reply = ap (λ (y : Sending). y .reply) (step .same);
+      frame = ap (λ (y : Sending). y .frame) (step .same);
+    })
+    (subst
+    (λ (rest : List ℕ). Forall₂ SameSend (sends (r .sender) rest cs) (sendsBytes (dueAfter due (b .reply)) (b .state) (b .rows) cs))
+    (ap (λ (y : Sending). y .rows) (step .same))
+    (sends-read cs (dueAfter due (b .reply)) (b .state) (b .rows) (r .sender) (step .next)
+    (step .due ∙ ap (λ (d : ℕ). dueAfter d (b .reply)) e)))
 
 -- ---- the receiver
 
 -- the bytes are a receiver's state, and keep this receiver
-pub record KeepsReceiver (state : List ℕ) (x : Receiver) : Type 0 where
-  pub is-kept : kept receiverEnd state ≡ true
-  pub reads : receiverIn state ≡ x
+pub record KeepsReceiver (state : List ℕ) (y : Receiver) : Type 0 where
+  pub uncaused : stateCause receiverEnd state nothing ≡ nothing
+  pub reads : receiverIn state ≡ y
 
--- an opening with accepted settings and exact lengths is accepted, and the next call reads the receiver that it opened
-pub opened-receiver-read : (settings state rows : List ℕ) → T (accepted (settingsAt 0 settings)) → length state ≡ stateLen
-    → length rows ≡ receiverLen (settingsAt 0 settings)
+kept-receiver : (s : Settings) (due : ℕ) → due ≤ lastSlot + 1
+    → KeepsReceiver (stateBytes receiverEnd s due) (record { settings = s; due = due })
+kept-receiver s due few = record { uncaused = state-uncaused receiverEnd s due; reads = receiver-in-state receiverEnd s due few }
+
+-- an opening with accepted settings and exact lengths replies 0, and the next call reads the receiver that it opened
+pub opened-receiver-read : (settings state rows : List ℕ) → T (accepted (settingsOf settings)) → length state ≡ stateLen
+    → length rows ≡ receiverLen (settingsOf settings)
     → let b : Opening = openReceiverBytes settings state rows in
-    let r : OpenedReceiver = openReceiverOf (settingsAt 0 settings) rows in
+    let r : OpenedReceiver = openReceiverOf (settingsOf settings) rows in
     (b .reply ≡ 0) × (b .rows ≡ r .rows) × KeepsReceiver (b .state) (r .receiver)
-unfolding openedReceiver lastSlot
+unfolding settingsOf
 opened-receiver-read settings state rows ok room full =
-    let s = settingsAt 0 settings in
+    let s : Settings = settingsAt 0 settings in
     subst
     (λ (b : Opening).
     (b .reply ≡ 0) × (b .rows ≡ openReceiverOf s rows .rows) × KeepsReceiver (b .state) (openReceiverOf s rows .receiver))
-    (receiver-room settings state rows room)
+    (receiver-uncaused settings state rows (open-nothing s stateLen state ok room))
     (subst⁻¹
     (λ (r : OpenedReceiver).
-    (openedReceiver state r .reply ≡ 0) × (openedReceiver state r .rows ≡ r .rows)
-    × KeepsReceiver (openedReceiver state r .state) (r .receiver))
+    (receiverLeft state r .reply ≡ 0) × (receiverLeft state r .rows ≡ r .rows)
+    × KeepsReceiver (receiverLeft state r .state) (r .receiver))
     (reporting.opened-receiver s ok rows full)
-    (refl, refl, record { is-kept = state-kept receiverEnd s 0 ok (omega arith); reads = receiver-in-state receiverEnd s 0 (omega arith) }))
+    (refl, refl, kept-receiver s 0 (omega arith)))
 
--- a report to a receiver's state is protocol's
-report-kept : (state rows : List ℕ) (call : Report) → kept receiverEnd state ≡ true
-    → reportedBytes state (reportOf (receiverIn state) rows call) ≡ reportBytes state rows call
-unfolding reportOf reportBytes
-report-kept state rows (heard frame message) is = heard-kept state rows message frame is
-report-kept state rows (missed message) is = lost-kept state rows message is
+-- a report by the library: what it leaves, the receiver that the next call reads, and the slot due then
+pub record ReportStep (state rows : List ℕ) (call : Report) (y : Receiver) : Type 0 where
+  pub same : reportBytes state rows call ≡ reportLeft state (reportOf y rows call)
+  pub next : KeepsReceiver (reportBytes state rows call .state) (reportOf y rows call .receiver)
+  pub due : reportOf y rows call .receiver .due ≡ dueAfter (y .due) (reportBytes state rows call .reply)
 
-module _ (state rows : List ℕ) (is : kept receiverEnd state ≡ true) where
+module _ (state rows : List ℕ) (none : stateCause receiverEnd state nothing ≡ nothing) where
   abbrev y : Receiver
   y = receiverIn state
 
-  settled : T (accepted (y .settings))
-  unfolding receiverIn
-  settled = kept-settings receiverEnd state is
+  report-same : (call : Report) → reportBytes state rows call ≡ reportLeft state (reportOf y rows call)
+  unfolding reportOf reportBytes
+  report-same (heard frame message) = sym (heard-uncaused state rows message frame none)
+  report-same (missed message) = sym (lost-uncaused state rows message none)
 
-  -- what is left of the state by this outcome keeps the outcome's receiver
-  abbrev Left : Reported → Type 0
-  Left r = KeepsReceiver (reportedBytes state r .state) (r .receiver)
+  abbrev After : Reported → Type 0
+  After r = KeepsReceiver (reportLeft state r .state) (r .receiver) × (r .receiver .due ≡ dueAfter (y .due) (reportLeft state r .reply))
 
-  moved-read : (row : List ℕ) → y .due ≤ lastSlot → Left (movedOn y row rows)
-  unfolding reportedBytes movedOn
-  moved-read row before =
-      let few : y .due + 1 ≤ lastSlot + 1 = omega arith in
-      subst⁻¹
-      (λ (t : Bool). KeepsReceiver (saved t receiverEnd (y .settings) (y .due + 1) state) (record { settings = y .settings; due = y .due + 1 }))
-      (is-true (accepts (movedOn y row rows .reply)) (moved-accepts y row rows))
-      (record {
-        is-kept = state-kept receiverEnd (y .settings) (y .due + 1) settled few;
-        reads = receiver-in-state receiverEnd (y .settings) (y .due + 1) few;
-      })
+  moved-next : (row : List ℕ) → y .due ≤ lastSlot → After (movedOn y row rows)
+  unfolding movedOn
+  moved-next row before =
+      let r : Reported = movedOn y row rows in
+      let passed : accepts (r .reply) ≡ true = is-true (accepts (r .reply)) (moved-accepts y row rows) in (
+        subst⁻¹ (λ (t : Bool). KeepsReceiver (saved t receiverEnd (y .settings) (y .due + 1) state) (r .receiver)) passed
+            (kept-receiver (y .settings) (y .due + 1) (omega arith)),
+        ap (λ (t : Bool). cond t (y .due + 1) (y .due)) (sym (reply-accepted (r .reply) ∙ passed)),
+      )
 
-  stayed-read : (c : Cause) (message : List ℕ) → Left (refusal c y rows message)
-  unfolding reportedBytes
-  stayed-read c message = record { is-kept = is; reads = refl }
+  stayed-next : (c : Cause) (message : List ℕ) → After (steps.refusal c y rows message)
+  stayed-next c message =
+      (record { uncaused = none; reads = refl }, ap (λ (t : Bool). cond t (y .due + 1) (y .due)) (sym (cause-refused c)))
 
   -- by the cause that is found
-  heard-read : (frame message : List ℕ) (found : Found) → frameCause y rows frame message ≡ found → Left (heardOf y rows frame message)
-  heard-read frame message nothing e =
-      subst⁻¹ Left (heard-moves y rows frame message e) (moved-read (1 ∷ drop 14 frame) (frame-open y rows message frame e .in-time))
-  heard-read frame message (cause c) e = subst⁻¹ Left (heard-stays y rows frame message c e) (stayed-read c message)
+  heard-next : (frame message : List ℕ) (found : Found) → frameCause y rows frame message ≡ found → After (heardOf y rows frame message)
+  heard-next frame message nothing e =
+      subst⁻¹ After (steps.heard-moves y rows frame message e)
+      (moved-next (1 ∷ drop 14 frame) (frame-open y rows message frame e .in-time))
+  heard-next frame message (cause c) e = subst⁻¹ After (steps.heard-stays y rows frame message c e) (stayed-next c message)
 
-  lost-read : (message : List ℕ) (found : Found) → lossCause y rows message ≡ found → Left (lossOf y rows message)
-  lost-read message nothing e =
-      subst⁻¹ Left (loss-moves y rows message e) (moved-read _ (loss-open y rows message e .in-time))
-  lost-read message (cause c) e = subst⁻¹ Left (loss-stays y rows message c e) (stayed-read c message)
+  lost-next : (message : List ℕ) (found : Found) → lossCause y rows message ≡ found → After (lossOf y rows message)
+  lost-next message nothing e =
+      subst⁻¹ After (steps.loss-moves y rows message e) (moved-next _ (loss-open y rows message e .in-time))
+  lost-next message (cause c) e = subst⁻¹ After (steps.loss-stays y rows message c e) (stayed-next c message)
 
-  reported-read : (call : Report) → Left (reportOf y rows call)
+  report-next : (call : Report) → After (reportOf y rows call)
   unfolding reportOf
-  reported-read (heard frame message) = heard-read frame message (frameCause y rows frame message) refl
-  reported-read (missed message) = lost-read message (lossCause y rows message) refl
+  report-next (heard frame message) = heard-next frame message (frameCause y rows frame message) refl
+  report-next (missed message) = lost-next message (lossCause y rows message) refl
 
--- a report is protocol's to the receiver that the state keeps
-pub report-read : (state rows : List ℕ) (call : Report) (x : Receiver) → KeepsReceiver state x
-    → reportBytes state rows call ≡ reportedBytes state (reportOf x rows call)
-report-read state rows call x k =
-    sym (report-kept state rows call (k .is-kept)) ∙ ap (λ (z : Receiver). reportedBytes state (reportOf z rows call)) (k .reads)
+  -- a report to the receiver that the state keeps is protocol's
+  reported-step : (call : Report) → ReportStep state rows call y
+  reported-step call =
+      let same = report-same call in
+      let next = report-next call in
+      record {
+        same = same;
+        next = subst⁻¹ (λ (b : Reporting). KeepsReceiver (b .state) (reportOf y rows call .receiver)) same (next .0);
+        due = next .1 ∙ ap (λ (b : Reporting). dueAfter (y .due) (b .reply)) (sym same);
+      }
 
--- and the next call reads the receiver that it left
-pub receiver-read : (state rows : List ℕ) (call : Report) (x : Receiver) → KeepsReceiver state x
-    → KeepsReceiver (reportBytes state rows call .state) (reportOf x rows call .receiver)
-receiver-read state rows call x k =
-    subst (λ (z : Receiver). KeepsReceiver (reportBytes state rows call .state) (reportOf z rows call .receiver)) (k .reads)
-    (subst (λ (b : Reporting). KeepsReceiver (b .state) (reportOf (receiverIn state) rows call .receiver))
-    (report-kept state rows call (k .is-kept))
-    (reported-read state rows (k .is-kept) call))
+pub report-step : (state rows : List ℕ) (call : Report) (y : Receiver) → KeepsReceiver state y → ReportStep state rows call y
+report-step state rows call y k = subst (ReportStep state rows call) (k .reads) (reported-step state rows (k .uncaused) call)
+
+-- the library's report and protocol's: for the same slot, with the same call, and alike in what the caller sees
+pub record SameReport (m : ReportMade) (b : ReportDone) : Type 0 where
+  pub due : b .due ≡ m .before .due
+  pub call : b .call ≡ m .call
+  pub reply : b .after .reply ≡ replyNumber (m .after .reply)
+  pub message : b .after .message ≡ m .after .message
 
 -- so a list of reports is protocol's
-pub reports-read : (calls : List Report) (state rows : List ℕ) (x : Receiver) → KeepsReceiver state x
-    → reportsBytes state rows calls ≡ reportedAll state (reports x rows calls)
-unfolding reportsBytes reportedAll reports reportedBytes
-reports-read [] state rows x k = refl
-reports-read (c ∷ cs) state rows x k =
+pub reports-read : (calls : List Report) (due : ℕ) (state rows : List ℕ) (y : Receiver) → KeepsReceiver state y → y .due ≡ due
+    → Forall₂ SameReport (reports y rows calls) (reportsBytes due state rows calls)
+unfolding reportsBytes reports
+reports-read [] due state rows y k e = Forall₂·nil
+reports-read (c ∷ cs) due state rows y k e =
     let b : Reporting = reportBytes state rows c in
-    let r : Reported = reportOf x rows c in
-    let same : b ≡ reportedBytes state r = report-read state rows c x k in
-    ap (λ (l : List Reporting). b ∷ l) (reports-read cs (b .state) (b .rows) (r .receiver) (receiver-read state rows c x k))
-    ∙ ap (λ (z : Reporting). z ∷ reportedAll (z .state) (reports (r .receiver) (z .rows) cs)) same
+    let r : Reported = reportOf y rows c in
+    let step = report-step state rows c y k in
+    Forall₂·cons
+    (record {
+      due = sym e;
+      call = refl;
+      reply = ap (λ (z : Reporting). z .reply) (step .same);
+      message = ap (λ (z : Reporting). z .message) (step .same);
+    })
+    (subst
+    (λ (rest : List ℕ). Forall₂ SameReport (reports (r .receiver) rest cs) (reportsBytes (dueAfter due (b .reply)) (b .state) (b .rows) cs))
+    (ap (λ (z : Reporting). z .rows) (step .same))
+    (reports-read cs (dueAfter due (b .reply)) (b .state) (b .rows) (r .receiver) (step .next)
+    (step .due ∙ ap (λ (d : ℕ). dueAfter d (b .reply)) e)))

@@ -1,127 +1,174 @@
--- A call whose number is one of a refusal changes no lent byte.
-use mathlib.Core.Path.{_≡_, refl, ap, subst}
-use mathlib.Core.Bool.{Bool, true, false}
-use mathlib.Core.List.{List}
+-- Demand 1 of the static library: a call replies with a cause's number exactly if that cause is the first of its table that holds, and
+-- then it changes no lent byte.
+use mathlib.Core.Path.{_≡_, refl, ap, _∙_}
+use mathlib.Core.Bool.{Bool, true, false, not, _&&_}
+use mathlib.Core.Logic.{_↔_}
+use mathlib.Core.List.{List, [], _∷_}
 use Prim.Native.Nat.{ℕ}
 use lib.Dec.{T, eqb}
 use lib.ListN.{length}
-use borrow.Author.Tests.{eqb-true, eqb-false}
-use Rattle.protocol.specs.declared.Sender.{Sender}
+use Rattle.galois.proofs.Cases.{is-true}
+use Rattle.code.specs.declared.settings.Settings.{Settings}
+use Rattle.code.specs.Settings.{accepted}
 use Rattle.protocol.specs.declared.Receiver.{Receiver}
-use Rattle.protocol.specs.Calls.{openSenderOf, openReceiverOf, sendOf, heardOf, lossOf}
-use Rattle.protocol.proofs.Refusals as protocol
-use Rattle.layout.specs.State.{senderEnd, receiverEnd, stateLen, settingsAt, senderIn, receiverIn, kept}
-use Rattle.layout.specs.Numbers.{refusal}
-use Rattle.layout.proofs.Refusals.{refused-answer, refused-reply}
-use Rattle.tob.specs.Calls.{Opening, openedSender, openSenderBytes, openedReceiver, openReceiverBytes, Sending, sentBytes, sendBytes, Reporting, reportedBytes, heardBytes, lostBytes}
-use Rattle.tob.proofs.Outcomes.{sender-roomless, sender-room, receiver-roomless, receiver-room, send-stateless, send-kept, heard-stateless, heard-kept, lost-stateless, lost-kept}
+use Rattle.protocol.specs.declared.Cause.{Cause}
+use Rattle.protocol.specs.declared.Cause.the-variants.{BadSettings, BadLength}
+use Rattle.protocol.specs.Lengths.{senderLen, receiverLen}
+use Rattle.protocol.specs.Causes.{Found, nothing, cause, numberOf, check, agree, openCause, sendCause, lossCause, frameCause}
+use Rattle.protocol.specs.Calls.{openSenderOf, openReceiverOf, sendOf, movedOn, heardOf, lossOf}
+use Rattle.protocol.specs.Claim.{accepts}
+use Rattle.protocol.proofs.ReportRows.{moved-accepts}
+use Rattle.protocol.proofs.Refusals.{Row, First, firstOf, sendTable, lossTable, frameTable}
+use Rattle.layout.specs.State.{senderEnd, receiverEnd, stateLen, markOf, senderIn, receiverIn, stateCause}
+use Rattle.layout.specs.Numbers.{replyNumber, acceptance}
+use Rattle.layout.proofs.Refusals.{reply-accepted}
+use Rattle.layout.proofs.KeptStates.{uncaused-after}
+use Rattle.tob.specs.Causes.{openBytesCause, sendBytesCause, heardBytesCause, lostBytesCause}
+use Rattle.tob.specs.Calls.{settingsOf, Opening, openSenderBytes, openReceiverBytes, Sending, sendBytes, Reporting, heardBytes, lostBytes}
+use Rattle.tob.proofs.Firsts.{first-found, RepliesBy, number-first}
 
--- ---- openings
+-- ---- the openings
 
--- a refused opening leaves the lent lists as they were
-abbrev pub OpeningStays : List ℕ → List ℕ → Opening → Type 0
-OpeningStays state rows b = T (refusal (b .reply)) → (b .state ≡ state) × (b .rows ≡ rows)
-
-opening-stays : (state rows : List ℕ) (b : Opening) (n : ℕ) → b ≡ record { reply = n; state = state; rows = rows }
-    → (b .state ≡ state) × (b .rows ≡ rows)
-opening-stays state rows b n e = (ap (λ (r : Opening). r .state) e, ap (λ (r : Opening). r .rows) e)
+abbrev pub openBytesTable : Settings → ℕ → List ℕ → List ℕ → List Row
+openBytesTable s size state rows =
+    record { holds = not (accepted s); why = BadSettings }
+    ∷ record { holds = not (eqb (length state) stateLen && eqb (length rows) size); why = BadLength }
+    ∷ []
 
 module _ (settings state rows : List ℕ) where
-  opened-sender : OpeningStays state rows (openedSender state (openSenderOf (settingsAt 0 settings) rows))
-  unfolding openedSender
-  opened-sender t =
-      let s = settingsAt 0 settings in
-      let why = refused-answer (openSenderOf s rows .answer) t in
-      opening-stays state rows _ _
-      (ap (openedSender state) (protocol.open-sender-unchanged s rows (why .0) (protocol.open-sender-refused s rows (why .0) .0 (why .1))))
+  abbrev s : Settings
+  s = settingsOf settings
 
-  pub open-sender-refused : OpeningStays state rows (openSenderBytes settings state rows)
-  open-sender-refused = go (eqb (length state) stateLen) refl
+  -- what an accepted opening found nothing against, protocol's does not refuse
+  open-clear : (size : ℕ) → openBytesCause s size state rows ≡ nothing → openCause s size rows ≡ nothing
+  unfolding openBytesCause openCause
+  open-clear size = go (accepted s) (eqb (length state) stateLen)
     where
-      go : (room : Bool) → eqb (length state) stateLen ≡ room → OpeningStays state rows (openSenderBytes settings state rows)
-      go false e = subst (OpeningStays state rows) (sender-roomless settings state rows (eqb-false _ _ e)) (λ _. (refl, refl))
-      go true e = subst (OpeningStays state rows) (sender-room settings state rows (eqb-true _ _ e)) opened-sender
+      go : (p q : Bool) → check (not p) BadSettings (check (not (q && eqb (length rows) size)) BadLength nothing) ≡ nothing
+          → check (not p) BadSettings (check (not (eqb (length rows) size)) BadLength nothing) ≡ nothing
+      go false q e = e
+      go true false e = cc
+      go true true e = e
 
-  opened-receiver : OpeningStays state rows (openedReceiver state (openReceiverOf (settingsAt 0 settings) rows))
-  unfolding openedReceiver
-  opened-receiver t =
-      let s = settingsAt 0 settings in
-      let why = refused-answer (openReceiverOf s rows .answer) t in
-      opening-stays state rows _ _
-      (ap (openedReceiver state)
-      (protocol.open-receiver-unchanged s rows (why .0) (protocol.open-receiver-refused s rows (why .0) .0 (why .1))))
+  abbrev unopened : Cause → Opening
+  unopened c = record { reply = numberOf c; state = state; rows = rows }
 
-  pub open-receiver-refused : OpeningStays state rows (openReceiverBytes settings state rows)
-  open-receiver-refused = go (eqb (length state) stateLen) refl
-    where
-      go : (room : Bool) → eqb (length state) stateLen ≡ room → OpeningStays state rows (openReceiverBytes settings state rows)
-      go false e = subst (OpeningStays state rows) (receiver-roomless settings state rows (eqb-false _ _ e)) (λ _. (refl, refl))
-      go true e = subst (OpeningStays state rows) (receiver-room settings state rows (eqb-true _ _ e)) opened-receiver
+  opened-sender-by : (f : Found) → openBytesCause s (senderLen s) state rows ≡ f → RepliesBy (openSenderBytes settings state rows .reply) f
+  unfolding openSenderBytes openSenderOf
+  opened-sender-by nothing e = rw (e, openSenderBytes, open-clear (senderLen s) e, openSenderOf)
+  opened-sender-by (cause c) e = rw (e, openSenderBytes)
 
--- ---- sends
+  -- the refusal of a sender's opening
+  pub open-sender-refused : (c : Cause)
+      → (openSenderBytes settings state rows .reply ≡ numberOf c) ↔ First c (openBytesTable s (senderLen s) state rows)
+  unfolding openBytesCause
+  open-sender-refused c =
+      number-first c (openBytesTable s (senderLen s) state rows) (openSenderBytes settings state rows .reply)
+      (opened-sender-by (openBytesCause s (senderLen s) state rows) refl)
 
--- a refused send leaves the lent lists as they were
-abbrev pub SendingStays : List ℕ → List ℕ → List ℕ → Sending → Type 0
-SendingStays state rows frame b = T (refusal (b .reply)) → (b .state ≡ state) × (b .rows ≡ rows) × (b .frame ≡ frame)
+  pub open-sender-unchanged : (c : Cause) → First c (openBytesTable s (senderLen s) state rows)
+      → openSenderBytes settings state rows ≡ unopened c
+  unfolding openSenderBytes openBytesCause
+  open-sender-unchanged c h = rw (first-found c (openBytesTable s (senderLen s) state rows) h, openSenderBytes)
+
+  opened-receiver-by : (f : Found) → openBytesCause s (receiverLen s) state rows ≡ f
+      → RepliesBy (openReceiverBytes settings state rows .reply) f
+  unfolding openReceiverBytes openReceiverOf
+  opened-receiver-by nothing e = rw (e, openReceiverBytes, open-clear (receiverLen s) e, openReceiverOf)
+  opened-receiver-by (cause c) e = rw (e, openReceiverBytes)
+
+  -- the refusal of a receiver's opening
+  pub open-receiver-refused : (c : Cause)
+      → (openReceiverBytes settings state rows .reply ≡ numberOf c) ↔ First c (openBytesTable s (receiverLen s) state rows)
+  unfolding openBytesCause
+  open-receiver-refused c =
+      number-first c (openBytesTable s (receiverLen s) state rows) (openReceiverBytes settings state rows .reply)
+      (opened-receiver-by (openBytesCause s (receiverLen s) state rows) refl)
+
+  pub open-receiver-unchanged : (c : Cause) → First c (openBytesTable s (receiverLen s) state rows)
+      → openReceiverBytes settings state rows ≡ unopened c
+  unfolding openReceiverBytes openBytesCause
+  open-receiver-unchanged c h = rw (first-found c (openBytesTable s (receiverLen s) state rows) h, openReceiverBytes)
+
+-- ---- a send
+
+-- the causes that a state's bytes give, and then the rest
+abbrev pub stateTable : ℕ → List ℕ → List Row → List Row
+stateTable end state rest =
+    record { holds = not (eqb (length state) stateLen); why = BadLength }
+    ∷ record { holds = not (agree 4 state (markOf end)); why = BadSettings }
+    ∷ rest
+
+abbrev pub sendBytesTable : List ℕ → List ℕ → List ℕ → List ℕ → List Row
+sendBytesTable state rows message frame = stateTable senderEnd state (sendTable (senderIn state) rows message frame)
 
 module _ (state rows message frame : List ℕ) where
-  sent : (x : Sender) → SendingStays state rows frame (sentBytes state (sendOf x rows message frame))
-  unfolding sentBytes
-  sent x t =
-      let why = refused-answer (sendOf x rows message frame .answer) t in
-      let as-it-was = protocol.send-unchanged x rows message frame (why .0)
-      (protocol.send-refused x rows message frame (why .0) .0 (why .1)) in
-      let b = ap (sentBytes state) as-it-was in
-      (ap (λ (r : Sending). r .state) b, ap (λ (r : Sending). r .rows) b, ap (λ (r : Sending). r .frame) b)
+  send-by : (f : Found) → sendBytesCause state rows message frame ≡ f → RepliesBy (sendBytes state rows message frame .reply) f
+  unfolding sendBytes sendBytesCause sendOf
+  send-by nothing e = rw (e, sendBytes, uncaused-after senderEnd state _ e, sendOf)
+  send-by (cause c) e = rw (e, sendBytes)
 
-  pub send-refused : SendingStays state rows frame (sendBytes state rows message frame)
-  send-refused = go (kept senderEnd state) refl
-    where
-      go : (k : Bool) → kept senderEnd state ≡ k → SendingStays state rows frame (sendBytes state rows message frame)
-      go false e = subst (SendingStays state rows frame) (send-stateless state rows message frame e) (λ _. (refl, refl, refl))
-      go true e = subst (SendingStays state rows frame) (send-kept state rows message frame e) (sent (senderIn state))
+  -- the refusal of a send
+  pub send-refused : (c : Cause)
+      → (sendBytes state rows message frame .reply ≡ numberOf c) ↔ First c (sendBytesTable state rows message frame)
+  unfolding sendBytesCause stateCause sendCause
+  send-refused c =
+      number-first c (sendBytesTable state rows message frame) (sendBytes state rows message frame .reply)
+      (send-by (sendBytesCause state rows message frame) refl)
+
+  pub send-unchanged : (c : Cause) → First c (sendBytesTable state rows message frame)
+      → sendBytes state rows message frame ≡ record { reply = numberOf c; state = state; rows = rows; frame = frame }
+  unfolding sendBytes sendBytesCause stateCause sendCause
+  send-unchanged c h = rw (first-found c (sendBytesTable state rows message frame) h, sendBytes)
 
 -- ---- reports
 
--- a refused report leaves the lent lists as they were
-abbrev pub ReportingStays : List ℕ → List ℕ → List ℕ → Reporting → Type 0
-ReportingStays state rows message b =
-    T (refusal (b .reply)) → (b .state ≡ state) × (b .rows ≡ rows) × (b .message ≡ message)
+abbrev pub heardBytesTable : List ℕ → List ℕ → List ℕ → List ℕ → List Row
+heardBytesTable state rows frame message = stateTable receiverEnd state (frameTable (receiverIn state) rows frame message)
+
+abbrev pub lostBytesTable : List ℕ → List ℕ → List ℕ → List Row
+lostBytesTable state rows message = stateTable receiverEnd state (lossTable (receiverIn state) rows message)
+
+-- a report that moves the slot due on replies that it was accepted
+moved-reply : (x : Receiver) (row rows : List ℕ) → acceptance (replyNumber (movedOn x row rows .reply)) ≡ true
+moved-reply x row rows =
+    reply-accepted (movedOn x row rows .reply) ∙ is-true (accepts (movedOn x row rows .reply)) (moved-accepts x row rows)
 
 module _ (state rows message : List ℕ) where
-  reporting-stays : (b : Reporting) (n : ℕ) → b ≡ record { reply = n; state = state; rows = rows; message = message }
-      → (b .state ≡ state) × (b .rows ≡ rows) × (b .message ≡ message)
-  reporting-stays b n e =
-      (ap (λ (r : Reporting). r .state) e, ap (λ (r : Reporting). r .rows) e, ap (λ (r : Reporting). r .message) e)
+  abbrev unreported : Cause → Reporting
+  unreported c = record { reply = numberOf c; state = state; rows = rows; message = message }
 
-  heard : (frame : List ℕ) (x : Receiver)
-      → ReportingStays state rows message (reportedBytes state (heardOf x rows frame message))
-  unfolding reportedBytes
-  heard frame x t =
-      let why = refused-reply (heardOf x rows frame message .reply) t in
-      reporting-stays _ _
-      (ap (reportedBytes state)
-      (protocol.frame-unchanged x rows frame message (why .0) (protocol.frame-refused x rows frame message (why .0) .0 (why .1))))
+  module _ (frame : List ℕ) where
+    heard-by : (f : Found) → heardBytesCause state rows frame message ≡ f → RepliesBy (heardBytes state rows frame message .reply) f
+    unfolding heardBytes heardBytesCause heardOf
+    heard-by nothing e = rw (e, heardBytes, uncaused-after receiverEnd state _ e, heardOf) (moved-reply (receiverIn state) _ rows)
+    heard-by (cause c) e = rw (e, heardBytes)
 
-  pub heard-refused : (frame : List ℕ) → ReportingStays state rows message (heardBytes state rows frame message)
-  heard-refused frame = go (kept receiverEnd state) refl
-    where
-      go : (k : Bool) → kept receiverEnd state ≡ k
-          → ReportingStays state rows message (heardBytes state rows frame message)
-      go false e = subst (ReportingStays state rows message) (heard-stateless state rows message frame e) (λ _. (refl, refl, refl))
-      go true e = subst (ReportingStays state rows message) (heard-kept state rows message frame e) (heard frame (receiverIn state))
+    -- the refusal of a frame report
+    pub heard-refused : (c : Cause)
+        → (heardBytes state rows frame message .reply ≡ numberOf c) ↔ First c (heardBytesTable state rows frame message)
+    unfolding heardBytesCause stateCause frameCause
+    heard-refused c =
+        number-first c (heardBytesTable state rows frame message) (heardBytes state rows frame message .reply)
+        (heard-by (heardBytesCause state rows frame message) refl)
 
-  lost : (x : Receiver) → ReportingStays state rows message (reportedBytes state (lossOf x rows message))
-  unfolding reportedBytes
-  lost x t =
-      let why = refused-reply (lossOf x rows message .reply) t in
-      reporting-stays _ _
-      (ap (reportedBytes state)
-      (protocol.loss-unchanged x rows message (why .0) (protocol.loss-refused x rows message (why .0) .0 (why .1))))
+    pub heard-unchanged : (c : Cause) → First c (heardBytesTable state rows frame message)
+        → heardBytes state rows frame message ≡ unreported c
+    unfolding heardBytes heardBytesCause stateCause frameCause
+    heard-unchanged c h = rw (first-found c (heardBytesTable state rows frame message) h, heardBytes)
 
-  pub lost-refused : ReportingStays state rows message (lostBytes state rows message)
-  lost-refused = go (kept receiverEnd state) refl
-    where
-      go : (k : Bool) → kept receiverEnd state ≡ k → ReportingStays state rows message (lostBytes state rows message)
-      go false e = subst (ReportingStays state rows message) (lost-stateless state rows message e) (λ _. (refl, refl, refl))
-      go true e = subst (ReportingStays state rows message) (lost-kept state rows message e) (lost (receiverIn state))
+  lost-by : (f : Found) → lostBytesCause state rows message ≡ f → RepliesBy (lostBytes state rows message .reply) f
+  unfolding lostBytes lostBytesCause lossOf
+  lost-by nothing e = rw (e, lostBytes, uncaused-after receiverEnd state _ e, lossOf) (moved-reply (receiverIn state) _ rows)
+  lost-by (cause c) e = rw (e, lostBytes)
+
+  -- the refusal of a loss report
+  pub lost-refused : (c : Cause) → (lostBytes state rows message .reply ≡ numberOf c) ↔ First c (lostBytesTable state rows message)
+  unfolding lostBytesCause stateCause lossCause
+  lost-refused c =
+      number-first c (lostBytesTable state rows message) (lostBytes state rows message .reply)
+      (lost-by (lostBytesCause state rows message) refl)
+
+  pub lost-unchanged : (c : Cause) → First c (lostBytesTable state rows message) → lostBytes state rows message ≡ unreported c
+  unfolding lostBytes lostBytesCause stateCause lossCause
+  lost-unchanged c h = rw (first-found c (lostBytesTable state rows message) h, lostBytes)

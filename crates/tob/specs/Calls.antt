@@ -1,15 +1,16 @@
--- Each call of the static library, as a function of every lent list: protocol's call, on the state that the bytes keep.
-use mathlib.Core.Bool.{true, false, cond}
+-- Each call of the static library, as a function of every lent list. Refused for its first cause, it changes nothing; else it is protocol's
+-- call on the state that the bytes keep, and the next state is written over them.
+use mathlib.Core.Bool.{cond}
 use mathlib.Core.List.{List}
 use Prim.Native.Nat.{ℕ}
-use lib.Dec.{eqb}
-use lib.ListN.{length}
 use Rattle.code.specs.declared.settings.Settings.{Settings}
 use Rattle.code.specs.Settings.{accepted}
+use Rattle.protocol.specs.Lengths.{senderLen, receiverLen}
+use Rattle.protocol.specs.Causes.{nothing, cause, numberOf}
 use Rattle.protocol.specs.Calls.{OpenedSender, OpenedReceiver, Sent, Reported, openSenderOf, sendOf, openReceiverOf, heardOf, lossOf}
-use Rattle.protocol.specs.Claim.{accepts}
-use Rattle.layout.specs.State.{senderEnd, receiverEnd, saved, stateLen, settingsAt, senderIn, receiverIn, kept}
-use Rattle.layout.specs.Numbers.{answerNumber, replyNumber, noState, taken}
+use Rattle.layout.specs.State.{senderEnd, receiverEnd, stateBytes, settingsAt, senderIn, receiverIn}
+use Rattle.layout.specs.Numbers.{answerNumber, replyNumber}
+use Rattle.tob.specs.Causes.{openBytesCause, sendBytesCause, heardBytesCause, lostBytesCause}
 
 -- ---- lengths
 
@@ -30,35 +31,37 @@ pub record Opening : Type 0 where
   pub rows : List ℕ
 
 -- what an opening of a sender leaves, by protocol's
-unfoldable pub openedSender : List ℕ → OpenedSender → Opening
-openedSender state r = record {
+abbrev pub openedSender : OpenedSender → Opening
+openedSender r = record {
   reply = answerNumber (r .answer);
-  state = saved (taken (r .answer)) senderEnd (r .sender .settings) (r .sender .due) state;
+  state = stateBytes senderEnd (r .sender .settings) (r .sender .due);
   rows = r .rows;
 }
 
--- a sender is opened where there is room for its state, and else nothing changes
+-- the opening of a sender
 unfoldable pub openSenderBytes : List ℕ → List ℕ → List ℕ → Opening
 openSenderBytes settings state rows =
-    elim (eqb (length state) stateLen) [
-      | false ↦ record { reply = noState; state = state; rows = rows }
-      | true ↦ openedSender state (openSenderOf (settingsOf settings) rows)
+    let s : Settings = settingsOf settings in
+    elim (openBytesCause s (senderLen s) state rows) [
+      | cause c ↦ record { reply = numberOf c; state = state; rows = rows }
+      | nothing ↦ openedSender (openSenderOf s rows)
     ]
 
 -- what an opening of a receiver leaves, by protocol's
-unfoldable pub openedReceiver : List ℕ → OpenedReceiver → Opening
-openedReceiver state r = record {
+abbrev pub openedReceiver : OpenedReceiver → Opening
+openedReceiver r = record {
   reply = answerNumber (r .answer);
-  state = saved (taken (r .answer)) receiverEnd (r .receiver .settings) (r .receiver .due) state;
+  state = stateBytes receiverEnd (r .receiver .settings) (r .receiver .due);
   rows = r .rows;
 }
 
--- a receiver is opened where there is room for its state, and else nothing changes
+-- the opening of a receiver
 unfoldable pub openReceiverBytes : List ℕ → List ℕ → List ℕ → Opening
 openReceiverBytes settings state rows =
-    elim (eqb (length state) stateLen) [
-      | false ↦ record { reply = noState; state = state; rows = rows }
-      | true ↦ openedReceiver state (openReceiverOf (settingsOf settings) rows)
+    let s : Settings = settingsOf settings in
+    elim (openBytesCause s (receiverLen s) state rows) [
+      | cause c ↦ record { reply = numberOf c; state = state; rows = rows }
+      | nothing ↦ openedReceiver (openReceiverOf s rows)
     ]
 
 -- ---- sends
@@ -71,20 +74,20 @@ pub record Sending : Type 0 where
   pub frame : List ℕ
 
 -- what a send leaves, by protocol's
-unfoldable pub sentBytes : List ℕ → Sent → Sending
-sentBytes state r = record {
+abbrev pub sentBytes : Sent → Sending
+sentBytes r = record {
   reply = answerNumber (r .answer);
-  state = saved (taken (r .answer)) senderEnd (r .sender .settings) (r .sender .due) state;
+  state = stateBytes senderEnd (r .sender .settings) (r .sender .due);
   rows = r .rows;
   frame = r .frame;
 }
 
--- a send of the sender that the state keeps; without one nothing changes
+-- a send of the sender that the state keeps
 unfoldable pub sendBytes : List ℕ → List ℕ → List ℕ → List ℕ → Sending
 sendBytes state rows message frame =
-    elim (kept senderEnd state) [
-      | false ↦ record { reply = noState; state = state; rows = rows; frame = frame }
-      | true ↦ sentBytes state (sendOf (senderIn state) rows message frame)
+    elim (sendBytesCause state rows message frame) [
+      | cause c ↦ record { reply = numberOf c; state = state; rows = rows; frame = frame }
+      | nothing ↦ sentBytes (sendOf (senderIn state) rows message frame)
     ]
 
 -- ---- reports
@@ -97,26 +100,26 @@ pub record Reporting : Type 0 where
   pub message : List ℕ
 
 -- what a report leaves, by protocol's
-unfoldable pub reportedBytes : List ℕ → Reported → Reporting
-reportedBytes state r = record {
+abbrev pub reportedBytes : Reported → Reporting
+reportedBytes r = record {
   reply = replyNumber (r .reply);
-  state = saved (accepts (r .reply)) receiverEnd (r .receiver .settings) (r .receiver .due) state;
+  state = stateBytes receiverEnd (r .receiver .settings) (r .receiver .due);
   rows = r .rows;
   message = r .message;
 }
 
--- the report of a frame to the receiver that the state keeps; without one nothing changes
+-- the report of a frame to the receiver that the state keeps
 unfoldable pub heardBytes : List ℕ → List ℕ → List ℕ → List ℕ → Reporting
 heardBytes state rows frame message =
-    elim (kept receiverEnd state) [
-      | false ↦ record { reply = noState; state = state; rows = rows; message = message }
-      | true ↦ reportedBytes state (heardOf (receiverIn state) rows frame message)
+    elim (heardBytesCause state rows frame message) [
+      | cause c ↦ record { reply = numberOf c; state = state; rows = rows; message = message }
+      | nothing ↦ reportedBytes (heardOf (receiverIn state) rows frame message)
     ]
 
--- the report of a loss to the receiver that the state keeps; without one nothing changes
+-- the report of a loss to the receiver that the state keeps
 unfoldable pub lostBytes : List ℕ → List ℕ → List ℕ → Reporting
 lostBytes state rows message =
-    elim (kept receiverEnd state) [
-      | false ↦ record { reply = noState; state = state; rows = rows; message = message }
-      | true ↦ reportedBytes state (lossOf (receiverIn state) rows message)
+    elim (lostBytesCause state rows message) [
+      | cause c ↦ record { reply = numberOf c; state = state; rows = rows; message = message }
+      | nothing ↦ reportedBytes (lossOf (receiverIn state) rows message)
     ]

@@ -1,3 +1,5 @@
--- The static library's calls, one by one and in lists.
+-- The static library's calls, one by one and in lists, and demand 3 about them.
+pub mod Causes
 pub mod Calls
 pub mod Chains
+pub mod Claim

@@ -1,5 +1,6 @@
 // How long each lent buffer is, for settings of five bytes: W, T, B, N and L. 0 where they are not accepted.
 use code::Settings;
+use layout::STATE_LEN;
 use layout::settings_at;
 use protocol::frame_len;
 use protocol::message_len;
@@ -17,7 +18,7 @@ ghost use Rattle.tob.specs.Calls.{lengthFor};
 pub extern "C" fn tob_state_len() -> usize
     ensures { λ r. ⌜ r ≡ stateLen ⌝ }
 {
-    13
+    STATE_LEN
 }
 
 // A length, where the settings are accepted.

@@ -1,33 +1,44 @@
 // The openings of both ends.
+use layout::RECEIVER_END;
+use layout::SENDER_END;
+use layout::number_of;
+use layout::opening_cause;
 use layout::save_answer;
 use layout::settings_at;
+use protocol::Answer;
 ghost use mathlib.Core.Path.{_≡_};
 ghost use Rattle.tob.specs.Calls.{openSenderBytes, openReceiverBytes};
 
 // Opens a sender: writes its state and zeroes its rows.
 #[no_mangle]
 pub extern "C" fn tob_open_sender(settings: &[u8; 5], state: &mut [u8], rows: &mut [u8]) -> u32
-    ensures { λ r. ⌜ record { reply = r; state = now (state .exit); rows = now (rows .exit) } ≡ openSenderBytes (now (settings .entry)) (now (state .entry)) (now (rows .entry)) ⌝ }
+    ensures { λ r. ⌜ record { reply = r; state = now (state .exit); rows = now (rows .exit) }
+        ≡ openSenderBytes (now (settings .entry)) (now (state .entry)) (now (rows .entry)) ⌝ }
 {
-    if state.len() != 13 {
-        return 64;
+    let s = settings_at(settings, 0);
+    let found = opening_cause(s, state);
+    if let Answer::Refused(c) = found {
+        return number_of(c);
     }
-    let r = sender::open(settings_at(settings, 0), rows);
+    let r = sender::open(s, rows);
     let answer = r.answer;
     let x = r.sender;
-    save_answer(answer, 0x53, x.settings, x.due, state)
+    save_answer(answer, SENDER_END, x.settings, x.due, state)
 }
 
 // Opens a receiver: writes its state, and makes its rows received zeros.
 #[no_mangle]
 pub extern "C" fn tob_open_receiver(settings: &[u8; 5], state: &mut [u8], rows: &mut [u8]) -> u32
-    ensures { λ r. ⌜ record { reply = r; state = now (state .exit); rows = now (rows .exit) } ≡ openReceiverBytes (now (settings .entry)) (now (state .entry)) (now (rows .entry)) ⌝ }
+    ensures { λ r. ⌜ record { reply = r; state = now (state .exit); rows = now (rows .exit) }
+        ≡ openReceiverBytes (now (settings .entry)) (now (state .entry)) (now (rows .entry)) ⌝ }
 {
-    if state.len() != 13 {
-        return 64;
+    let s = settings_at(settings, 0);
+    let found = opening_cause(s, state);
+    if let Answer::Refused(c) = found {
+        return number_of(c);
     }
-    let r = receiver::open(settings_at(settings, 0), rows);
+    let r = receiver::open(s, rows);
     let answer = r.answer;
     let x = r.receiver;
-    save_answer(answer, 0x52, x.settings, x.due, state)
+    save_answer(answer, RECEIVER_END, x.settings, x.due, state)
 }

@@ -1,7 +1,10 @@
 // The receiver's calls: the reports of frames and of losses.
-use layout::is_kept;
+use layout::RECEIVER_END;
+use layout::number_of;
 use layout::receiver_in;
 use layout::save_reply;
+use layout::state_cause;
+use protocol::Answer;
 ghost use mathlib.Core.Path.{_≡_};
 ghost use Rattle.tob.specs.Calls.{heardBytes, lostBytes};
 
@@ -13,10 +16,12 @@ pub extern "C" fn tob_heard(
     frame: &[u8],
     message: &mut [u8],
 ) -> u32
-    ensures { λ r. ⌜ record { reply = r; state = now (state .exit); rows = now (rows .exit); message = now (message .exit) } ≡ heardBytes (now (state .entry)) (now (rows .entry)) (now (frame .entry)) (now (message .entry)) ⌝ }
+    ensures { λ r. ⌜ record { reply = r; state = now (state .exit); rows = now (rows .exit); message = now (message .exit) }
+        ≡ heardBytes (now (state .entry)) (now (rows .entry)) (now (frame .entry)) (now (message .entry)) ⌝ }
 {
-    if !is_kept(0x52, state) {
-        return 64;
+    let found = state_cause(RECEIVER_END, state);
+    if let Answer::Refused(c) = found {
+        return number_of(c);
     }
     let r = receiver::heard(receiver_in(state), rows, frame, message);
     let reply = r.reply;
@@ -27,10 +32,12 @@ pub extern "C" fn tob_heard(
 // The report that the slot due was lost.
 #[no_mangle]
 pub extern "C" fn tob_lost(state: &mut [u8], rows: &mut [u8], message: &mut [u8]) -> u32
-    ensures { λ r. ⌜ record { reply = r; state = now (state .exit); rows = now (rows .exit); message = now (message .exit) } ≡ lostBytes (now (state .entry)) (now (rows .entry)) (now (message .entry)) ⌝ }
+    ensures { λ r. ⌜ record { reply = r; state = now (state .exit); rows = now (rows .exit); message = now (message .exit) }
+        ≡ lostBytes (now (state .entry)) (now (rows .entry)) (now (message .entry)) ⌝ }
 {
-    if !is_kept(0x52, state) {
-        return 64;
+    let found = state_cause(RECEIVER_END, state);
+    if let Answer::Refused(c) = found {
+        return number_of(c);
     }
     let r = receiver::loss(receiver_in(state), rows, message);
     let reply = r.reply;

@@ -1,7 +1,10 @@
 // The sender's call.
-use layout::is_kept;
+use layout::SENDER_END;
+use layout::number_of;
 use layout::save_answer;
 use layout::sender_in;
+use layout::state_cause;
+use protocol::Answer;
 ghost use mathlib.Core.Path.{_≡_};
 ghost use Rattle.tob.specs.Calls.{sendBytes};
 
@@ -13,13 +16,15 @@ pub extern "C" fn tob_send(
     message: &[u8],
     frame: &mut [u8],
 ) -> u32
-    ensures { λ r. ⌜ record { reply = r; state = now (state .exit); rows = now (rows .exit); frame = now (frame .exit) } ≡ sendBytes (now (state .entry)) (now (rows .entry)) (now (message .entry)) (now (frame .entry)) ⌝ }
+    ensures { λ r. ⌜ record { reply = r; state = now (state .exit); rows = now (rows .exit); frame = now (frame .exit) }
+        ≡ sendBytes (now (state .entry)) (now (rows .entry)) (now (message .entry)) (now (frame .entry)) ⌝ }
 {
-    if !is_kept(0x53, state) {
-        return 64;
+    let found = state_cause(SENDER_END, state);
+    if let Answer::Refused(c) = found {
+        return number_of(c);
     }
     let r = sender::send(sender_in(state), rows, message, frame);
     let answer = r.answer;
     let x = r.sender;
-    save_answer(answer, 0x53, x.settings, x.due, state)
+    save_answer(answer, SENDER_END, x.settings, x.due, state)
 }

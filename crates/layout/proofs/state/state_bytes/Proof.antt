@@ -2,14 +2,25 @@
 use borrow.Author.Needs.{needs}
 use mathlib.Core.Path.{refl}
 use Rattle.protocol.specs.Frame.{five, slotBytes}
-use Rattle.layout.specs.State.{markOf, stateBytes}
+use Rattle.layout.specs.State.{stateBytes}
 use Rattle.layout.proofs.state.state_bytes.Statement.{statement}
 use Rattle.layout.proofs.state.state_bytes.Tie as tie
 
 returns : tie.Need-returns
-unfolding markOf five slotBytes stateBytes
-returns c = refl
+unfolding five slotBytes stateBytes
+returns c = rw (c .mark-of .ensures) refl
 
 pub state-bytes-spec : {M : Type 1} → statement M
 state-bytes-spec =
-    tie.close (tie.spec (λ c. search needs) (λ c. search needs) (λ c. search needs) (λ c. search needs) returns)
+    tie.close
+    (tie.spec
+    (λ c κs. search needs)
+    (λ c. search needs)
+    (λ c. search needs)
+    (λ c. search needs)
+    (λ c. search needs)
+    (λ c. search needs)
+    (λ c. search needs)
+    (λ c. search needs)
+    (λ c. search needs)
+    returns)

@@ -1,37 +1,88 @@
--- Without room for a state nothing changes; else the opening is protocol's.
+-- A cause that the settings or the state give refuses the opening; else it is protocol's.
 use borrow.Author.Needs.{needs}
-use mathlib.Core.Path.{ap, _∙_}
+use mathlib.Core.Path.{_≡_, sym, ap, ap₂, _∙_}
+use mathlib.Core.List.{List}
+use Prim.Native.Nat.{ℕ}
 use denote.Ref.{now}
+use lib.ListN.{length}
 use Rattle.code.specs.declared.settings.Settings.{Settings}
+use Rattle.protocol.specs.Causes.{nothing, openCause}
 use Rattle.protocol.specs.Calls.{openReceiverOf}
-use Rattle.tob.specs.Calls.{openedReceiver}
-use Rattle.tob.proofs.Outcomes.{receiver-roomless, receiver-room, left-by-receiver}
+use Rattle.protocol.proofs.CauseTables.{check-nothing, passes}
+use Rattle.causes.specs.Findings.{foundIn}
+use Rattle.layout.specs.State.{stateLen, settingsAt}
+use Rattle.tob.specs.Calls.{Opening}
+use Rattle.tob.proofs.Outcomes.{opened-length, receiverLeft, receiver-caused, receiver-uncaused}
 use Rattle.tob.proofs.openings.tob_open_receiver.Statement.{statement}
 use Rattle.tob.proofs.openings.tob_open_receiver.Tie as tie
 
+abbrev outcome : List ℕ → ℕ → List ℕ → Opening
+outcome rows reply state = record { reply = reply; state = state; rows = rows }
+
+abbrev start : tie.After-opening-cause → tie.Start
+start c = c .before .before .before .before .before .before
+
+-- the cause that was looked for
+looked : (c : tie.After-opening-cause)
+    → let a = start c .args in foundIn (c .opening-cause .result) ≡ openCause (settingsAt 0 (now (a .settings))) stateLen (now (a .state))
+looked c =
+    c .opening-cause .ensures
+    ∙ ap (λ (s : Settings). openCause s stateLen (now (start c .args .state))) (c .before .before .settings-at .ensures)
+
 returns : tie.Need-returns
-returns c = receiver-roomless _ _ _ (c .if1 .taken)
+returns c =
+    let at-found = c .before .before in
+    let at = at-found .before .before in
+    let a = start at .args in
+    ap (λ (n : ℕ). outcome (now (a .rows)) n (now (a .state))) (c .number-of .ensures)
+    ∙ receiver-caused (now (a .settings)) (now (a .state)) (now (a .rows)) _ (sym (looked at) ∙ ap foundIn (at-found .found .given .1))
+
+-- ---- an opening that may be accepted
+
+abbrev begun : tie.After-enum-told → tie.Start
+begun c = start (c .before .before)
+
+uncaused : (c : tie.After-enum-told)
+    → let a = begun c .args in openCause (settingsAt 0 (now (a .settings))) stateLen (now (a .state)) ≡ nothing
+uncaused c = sym (looked (c .before .before)) ∙ ap foundIn (c .enum-told .given .1)
+
+-- the place after the test, from the one before the state is written
+abbrev opened : tie.After-x → tie.After-open
+opened c = c .before .before .before
+
+abbrev first : tie.After-open → tie.After-enum-told
+first c = c .before .before
+
+save-answer-requires : tie.Need-save-answer-requires
+save-answer-requires c κs =
+    let one = first (opened (c .before)) in
+    let a = begun one .args in
+    opened-length (settingsAt 0 (now (a .settings))) (now (a .state)) (uncaused one)
 
 returns-2 : tie.Need-returns-2
 returns-2 c =
     let at-save = c .before .before in
-    let at-open = at-save .before .before .before .before .before in
-    let at-settings = at-open .before .before in
-    let one = at-settings .before .before in
-    let a = one .before .before .before .args in
-    left-by-receiver _ (now (a .state)) _ _ (at-save .save-answer .ensures)
-    ∙ ap (openedReceiver (now (a .state)))
-    (at-open .open .ensures ∙ ap (λ (s : Settings). openReceiverOf s (now (a .rows))) (at-settings .settings-at .ensures))
-    ∙ receiver-room (now (a .settings)) (now (a .state)) (now (a .rows)) (one .if1 .left)
+    let at-open = opened (at-save .before .before) in
+    let one = first at-open in
+    let a = begun one .args in
+    ap₂ (outcome _) (at-save .save-answer .ensures .0) (at-save .save-answer .ensures .1)
+    ∙ ap (receiverLeft (now (a .state)))
+    (at-open .open .ensures ∙ ap (λ (s : Settings). openReceiverOf s (now (a .rows))) (one .before .before .before .before .settings-at .ensures))
+    ∙ receiver-uncaused (now (a .settings)) (now (a .state)) (now (a .rows)) (uncaused one)
 
 pub tob-open-receiver-spec : {M : Type 1} → statement M
 tob-open-receiver-spec =
     tie.close
     (tie.spec
+    (λ c κs. search needs)
+    (λ c κs. search needs)
+    (λ c. search needs)
+    (λ c κs. search needs)
+    (λ c. search needs)
     returns
+    (λ c. search needs)
     (λ c κs. search needs)
-    (λ c κs. search needs)
-    (λ c κs. search needs)
+    save-answer-requires
     (λ c. search needs)
     (λ c. search needs)
     returns-2)

@@ -1,57 +1,66 @@
--- Without a receiver's state nothing changes; else the report is protocol's.
+-- A cause that the state gives refuses the report; else it is protocol's.
 use borrow.Author.Needs.{needs}
-use borrow.Author.Tests.{not-true, not-false}
-use mathlib.Core.Path.{_≡_, sym, ap, _∙_}
-use mathlib.Core.Bool.{true}
+use mathlib.Core.Path.{_≡_, sym, ap, ap₂, _∙_}
 use mathlib.Core.List.{List}
 use native.Mathlib.Omega.{arith}
 use Prim.Native.Nat.{ℕ}
 use denote.Ref.{now}
 use lib.ListN.{length}
 use Rattle.protocol.specs.declared.Receiver.{Receiver}
+use Rattle.protocol.specs.Causes.{nothing}
 use Rattle.protocol.specs.Calls.{lossOf}
-use Rattle.layout.specs.State.{receiverEnd, stateLen, kept}
-use Rattle.layout.proofs.KeptStates.{kept-length}
-use Rattle.tob.specs.Calls.{reportedBytes}
-use Rattle.tob.proofs.Outcomes.{lost-stateless, lost-kept, left-by-report}
+use Rattle.causes.specs.Findings.{foundIn}
+use Rattle.layout.specs.State.{receiverEnd, stateLen, stateCause}
+use Rattle.layout.proofs.KeptStates.{uncaused-length}
+use Rattle.tob.specs.Calls.{Reporting}
+use Rattle.tob.proofs.Outcomes.{reportLeft, lost-caused, lost-uncaused}
 use Rattle.tob.proofs.receiving.tob_lost.Statement.{statement}
 use Rattle.tob.proofs.receiving.tob_lost.Tie as tie
 
-abbrev start : tie.Else1 → tie.Start
-start c = c .before .before .before .before .before .before
+abbrev outcome : List ℕ → List ℕ → ℕ → List ℕ → Reporting
+outcome rows message reply state = record { reply = reply; state = state; rows = rows; message = message }
 
--- the state, as it was lent
-abbrev state : tie.Else1 → List ℕ
-state c = now (start c .args .state)
+abbrev start : tie.After-state-cause → tie.Start
+start c = c .before .before .before .before .before
 
-is-kept : (c : tie.Else1) → kept receiverEnd (state c) ≡ true
-is-kept c = sym (c .before .is-kept .ensures) ∙ not-false (c .before .is-kept .result) (c .if1 .left)
+returns : tie.Need-returns
+returns c =
+    let at-found = c .before .before in
+    let at = at-found .before .before in
+    let a = start at .args in
+    ap (λ (n : ℕ). outcome (now (a .rows)) (now (a .message)) n (now (a .state))) (c .number-of .ensures)
+    ∙ lost-caused (now (a .state)) (now (a .rows)) (now (a .message)) _ (sym (at .state-cause .ensures) ∙ ap foundIn (at-found .found .given .1))
 
-sized : (c : tie.Else1) → length (state c) ≡ stateLen
-sized c = kept-length receiverEnd (state c) (is-kept c)
+-- ---- a call that may be accepted
+
+abbrev begun : tie.After-enum-told → tie.Start
+begun c = start (c .before .before)
+
+uncaused : (c : tie.After-enum-told) → stateCause receiverEnd (now (begun c .args .state)) nothing ≡ nothing
+uncaused c = sym (c .before .before .state-cause .ensures) ∙ ap foundIn (c .enum-told .given .1)
+
+sized : (c : tie.After-enum-told) → length (now (begun c .args .state)) ≡ stateLen
+sized c = uncaused-length receiverEnd (now (begun c .args .state)) (uncaused c)
 
 -- the place after the test, from the one after the call
-abbrev first : tie.After-loss → tie.Else1
+abbrev first : tie.After-loss → tie.After-enum-told
 first c = c .before .before .before .before .before
 
 -- the place after the call, from the one before the state is written
 abbrev called : tie.After-x → tie.After-loss
 called c = c .before .before .before .before .before
 
-returns : tie.Need-returns
-returns c =
-    lost-stateless _ _ _ (sym (c .before .is-kept .ensures) ∙ not-true (c .before .is-kept .result) (c .if1 .taken))
-
 returns-2 : tie.Need-returns-2
 returns-2 c =
     let at-save = c .before .before in
     let at-call = called (at-save .before .before) in
     let one = first at-call in
-    let a = start one .args in
-    left-by-report _ (state one) _ _ (at-save .save-reply .ensures)
-    ∙ ap (reportedBytes (state one))
-    (at-call .loss .ensures ∙ ap (λ (x : Receiver). lossOf x (now (a .rows)) (now (a .message))) (at-call .before .before .before .receiver-in .ensures))
-    ∙ lost-kept (state one) (now (a .rows)) (now (a .message)) (is-kept one)
+    let a = begun one .args in
+    ap₂ (outcome _ _) (at-save .save-reply .ensures .0) (at-save .save-reply .ensures .1)
+    ∙ ap (reportLeft (now (a .state)))
+    (at-call .loss .ensures
+    ∙ ap (λ (x : Receiver). lossOf x (now (a .rows)) (now (a .message))) (at-call .before .before .before .receiver-in .ensures))
+    ∙ lost-uncaused (now (a .state)) (now (a .rows)) (now (a .message)) (uncaused one)
 
 pub tob-lost-spec : {M : Type 1} → statement M
 tob-lost-spec =
@@ -59,7 +68,10 @@ tob-lost-spec =
     (tie.spec
     (λ c κs. search needs)
     (λ c. search needs)
+    (λ c κs. search needs)
+    (λ c. search needs)
     returns
+    (λ c. search needs)
     (λ c κs. omega (arith, sized (c .before)))
     (λ c κs. search needs)
     (λ c κs. sized (first (called (c .before))))

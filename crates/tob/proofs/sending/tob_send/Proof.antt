@@ -1,57 +1,66 @@
--- Without a sender's state nothing changes; else the send is protocol's.
+-- A cause that the state gives refuses the send; else it is protocol's.
 use borrow.Author.Needs.{needs}
-use borrow.Author.Tests.{not-true, not-false}
-use mathlib.Core.Path.{_≡_, sym, ap, _∙_}
-use mathlib.Core.Bool.{true}
+use mathlib.Core.Path.{_≡_, sym, ap, ap₂, _∙_}
 use mathlib.Core.List.{List}
 use native.Mathlib.Omega.{arith}
 use Prim.Native.Nat.{ℕ}
 use denote.Ref.{now}
 use lib.ListN.{length}
 use Rattle.protocol.specs.declared.Sender.{Sender}
+use Rattle.protocol.specs.Causes.{nothing}
 use Rattle.protocol.specs.Calls.{sendOf}
-use Rattle.layout.specs.State.{senderEnd, stateLen, kept}
-use Rattle.layout.proofs.KeptStates.{kept-length}
-use Rattle.tob.specs.Calls.{sentBytes}
-use Rattle.tob.proofs.Outcomes.{send-stateless, send-kept, left-by-send}
+use Rattle.causes.specs.Findings.{foundIn}
+use Rattle.layout.specs.State.{senderEnd, stateLen, stateCause}
+use Rattle.layout.proofs.KeptStates.{uncaused-length}
+use Rattle.tob.specs.Calls.{Sending}
+use Rattle.tob.proofs.Outcomes.{sendLeft, send-caused, send-uncaused}
 use Rattle.tob.proofs.sending.tob_send.Statement.{statement}
 use Rattle.tob.proofs.sending.tob_send.Tie as tie
 
-abbrev start : tie.Else1 → tie.Start
-start c = c .before .before .before .before .before .before .before
+abbrev outcome : List ℕ → List ℕ → ℕ → List ℕ → Sending
+outcome rows frame reply state = record { reply = reply; state = state; rows = rows; frame = frame }
 
--- the state, as it was lent
-abbrev state : tie.Else1 → List ℕ
-state c = now (start c .args .state)
+abbrev start : tie.After-state-cause → tie.Start
+start c = c .before .before .before .before .before .before
 
-is-kept : (c : tie.Else1) → kept senderEnd (state c) ≡ true
-is-kept c = sym (c .before .is-kept .ensures) ∙ not-false (c .before .is-kept .result) (c .if1 .left)
+returns : tie.Need-returns
+returns c =
+    let at-found = c .before .before in
+    let at = at-found .before .before in
+    let a = start at .args in
+    ap (λ (n : ℕ). outcome (now (a .rows)) (now (a .frame)) n (now (a .state))) (c .number-of .ensures)
+    ∙ send-caused (now (a .state)) (now (a .rows)) (now (a .message)) (now (a .frame)) _ (sym (at .state-cause .ensures) ∙ ap foundIn (at-found .found .given .1))
 
-sized : (c : tie.Else1) → length (state c) ≡ stateLen
-sized c = kept-length senderEnd (state c) (is-kept c)
+-- ---- a call that may be accepted
+
+abbrev begun : tie.After-enum-told → tie.Start
+begun c = start (c .before .before)
+
+uncaused : (c : tie.After-enum-told) → stateCause senderEnd (now (begun c .args .state)) nothing ≡ nothing
+uncaused c = sym (c .before .before .state-cause .ensures) ∙ ap foundIn (c .enum-told .given .1)
+
+sized : (c : tie.After-enum-told) → length (now (begun c .args .state)) ≡ stateLen
+sized c = uncaused-length senderEnd (now (begun c .args .state)) (uncaused c)
 
 -- the place after the test, from the one after the call
-abbrev first : tie.After-send → tie.Else1
+abbrev first : tie.After-send → tie.After-enum-told
 first c = c .before .before .before .before .before
 
 -- the place after the call, from the one before the state is written
 abbrev called : tie.After-x → tie.After-send
 called c = c .before .before .before .before .before
 
-returns : tie.Need-returns
-returns c =
-    send-stateless _ _ _ _ (sym (c .before .is-kept .ensures) ∙ not-true (c .before .is-kept .result) (c .if1 .taken))
-
 returns-2 : tie.Need-returns-2
 returns-2 c =
     let at-save = c .before .before in
     let at-call = called (at-save .before .before) in
     let one = first at-call in
-    let a = start one .args in
-    left-by-send _ (state one) _ _ (at-save .save-answer .ensures)
-    ∙ ap (sentBytes (state one))
-    (at-call .send .ensures ∙ ap (λ (x : Sender). sendOf x (now (a .rows)) (now (a .message)) (now (a .frame))) (at-call .before .before .before .sender-in .ensures))
-    ∙ send-kept (state one) (now (a .rows)) (now (a .message)) (now (a .frame)) (is-kept one)
+    let a = begun one .args in
+    ap₂ (outcome _ _) (at-save .save-answer .ensures .0) (at-save .save-answer .ensures .1)
+    ∙ ap (sendLeft (now (a .state)))
+    (at-call .send .ensures
+    ∙ ap (λ (x : Sender). sendOf x (now (a .rows)) (now (a .message)) (now (a .frame))) (at-call .before .before .before .sender-in .ensures))
+    ∙ send-uncaused (now (a .state)) (now (a .rows)) (now (a .message)) (now (a .frame)) (uncaused one)
 
 pub tob-send-spec : {M : Type 1} → statement M
 tob-send-spec =
@@ -59,7 +68,10 @@ tob-send-spec =
     (tie.spec
     (λ c κs. search needs)
     (λ c. search needs)
+    (λ c κs. search needs)
+    (λ c. search needs)
     returns
+    (λ c. search needs)
     (λ c κs. omega (arith, sized (c .before)))
     (λ c κs. search needs)
     (λ c κs. sized (first (called (c .before))))
