@@ -87,11 +87,13 @@ int main(void)
         }
     }
 
-    /* A refused call changes nothing: the last frame is not that of the slot that is due now. */
+    /* Refused: the last frame is not that of the slot that is due now, and a sender's state is no receiver's. */
     if (tob_heard(receiver, sizeof receiver, receiver_rows, receiver_len, frame, frame_len, out, message_len)
         != TOB_OTHER_SLOT)
         good = false;
-    printf("the last frame again: refused\n%s\n", good ? "good" : "bad");
+    if (tob_lost(sender, sizeof sender, receiver_rows, receiver_len, out, message_len) != TOB_BAD_SETTINGS)
+        good = false;
+    printf("the last frame again: refused\nwith the sender's state: refused\n%s\n", good ? "good" : "bad");
     free(sender_rows), free(receiver_rows), free(message), free(frame), free(out);
     return good ? 0 : 1;
 }

@@ -7,8 +7,10 @@
  * long as tob_sender_len or tob_receiver_len says. An opening fills both, and every later call gets both as the call
  * before it left them. A message is as long as tob_message_len says, and a frame as tob_frame_len says.
  *
- * Each call says by one number what became of it. With TOB_NO_STATE, or with one of the six causes, it is refused and
- * changes no byte that it was lent. The causes are checked in the order of their numbers, after TOB_NO_STATE.
+ * Each call says by one number what became of it. With one of the six causes, 1 to 6, it is refused and changes no byte
+ * that it was lent. The causes are checked in the order of their numbers, and the first that holds is the reply. Of a
+ * state of another length no settings can be read, so there TOB_BAD_LENGTH comes before TOB_BAD_SETTINGS. Below, the
+ * replies of each call stand in the order of checking.
  *
  * What the caller owes: a pointer is never NULL, not even to a buffer of length 0; each length is that of the memory
  * behind its pointer; the buffers of one call do not overlap; and nothing else reads or writes what a call may write,
@@ -31,8 +33,9 @@ extern "C" {
 /* An opening or a send: accepted. */
 #define TOB_ACCEPTED 0u
 
-/* Refused: the settings are not accepted; a buffer has another length than it should; the last slot, 3,999,999,999, is
- * past; and a frame of another mark or version, of other settings, or of another slot than the slot due. */
+/* Refused: the settings are not accepted, or the state is not one of this end and so holds none; the state or a buffer
+ * has another length than it should; the last slot, 3,999,999,999, is past; and a frame of another mark or version, of
+ * other settings, or of another slot than the slot due. */
 #define TOB_BAD_SETTINGS 1u
 #define TOB_BAD_LENGTH 2u
 #define TOB_PAST_LAST_SLOT 3u
@@ -47,10 +50,6 @@ extern "C" {
 #define TOB_LOST 18u
 #define TOB_CLASH 19u
 
-/* Refused: in an opening, the state has another length than TOB_STATE_LEN; in a later call, it is no state of this end:
- * its length, its mark, its settings or its slot due are not such as an opening or a later call writes. */
-#define TOB_NO_STATE 64u
-
 /* TOB_STATE_LEN. */
 size_t tob_state_len(void);
 
@@ -62,31 +61,33 @@ size_t tob_sender_len(const uint8_t settings[TOB_SETTINGS_LEN]);
 size_t tob_receiver_len(const uint8_t settings[TOB_SETTINGS_LEN]);
 
 /* Opens a sender at slot 0: writes its state and its rows, whatever they held.
- * TOB_ACCEPTED, TOB_BAD_SETTINGS, TOB_BAD_LENGTH (rows) or TOB_NO_STATE (state_len). */
+ * TOB_BAD_SETTINGS, TOB_BAD_LENGTH (state or rows), or else TOB_ACCEPTED. */
 uint32_t tob_open_sender(const uint8_t settings[TOB_SETTINGS_LEN], uint8_t *state, size_t state_len, uint8_t *rows,
                          size_t rows_len);
 
 /* Opens a receiver at slot 0: writes its state and its rows, whatever they held.
- * TOB_ACCEPTED, TOB_BAD_SETTINGS, TOB_BAD_LENGTH (rows) or TOB_NO_STATE (state_len). */
+ * TOB_BAD_SETTINGS, TOB_BAD_LENGTH (state or rows), or else TOB_ACCEPTED. */
 uint32_t tob_open_receiver(const uint8_t settings[TOB_SETTINGS_LEN], uint8_t *state, size_t state_len, uint8_t *rows,
                            size_t rows_len);
 
 /* Sends a message in the slot due: writes the slot's frame, the rows, and the state, whose slot due moves on by one.
- * TOB_ACCEPTED, TOB_BAD_LENGTH (rows, message or frame), TOB_PAST_LAST_SLOT or TOB_NO_STATE. */
+ * TOB_BAD_LENGTH (state), TOB_BAD_SETTINGS (state), TOB_BAD_LENGTH (rows, message or frame), TOB_PAST_LAST_SLOT,
+ * or else TOB_ACCEPTED. */
 uint32_t tob_send(uint8_t *state, size_t state_len, uint8_t *rows, size_t rows_len, const uint8_t *message,
                   size_t message_len, uint8_t *frame, size_t frame_len);
 
 /* Reports the frame that was heard in the slot due, t: writes the rows, the state, whose slot due moves on by one, and
  * the message buffer: message t - T where the reply is TOB_WHOLE, else zeros.
- * TOB_NONE_YET (while t < T), TOB_WHOLE, TOB_LOST or TOB_CLASH; or TOB_BAD_LENGTH (rows, frame or message),
- * TOB_PAST_LAST_SLOT, TOB_OTHER_MARK, TOB_OTHER_SETTINGS, TOB_OTHER_SLOT or TOB_NO_STATE. */
+ * TOB_BAD_LENGTH (state), TOB_BAD_SETTINGS (state), TOB_BAD_LENGTH (rows, frame or message), TOB_PAST_LAST_SLOT,
+ * TOB_OTHER_MARK, TOB_OTHER_SETTINGS, TOB_OTHER_SLOT, or else TOB_NONE_YET (while t < T), TOB_WHOLE, TOB_LOST or
+ * TOB_CLASH. */
 uint32_t tob_heard(uint8_t *state, size_t state_len, uint8_t *rows, size_t rows_len, const uint8_t *frame,
                    size_t frame_len, uint8_t *message, size_t message_len);
 
 /* Reports that the slot due, t, was lost: writes the rows, the state, whose slot due moves on by one, and the message
  * buffer: message t - T where the reply is TOB_WHOLE, else zeros.
- * TOB_NONE_YET (while t < T), TOB_WHOLE, TOB_LOST or TOB_CLASH; or TOB_BAD_LENGTH (rows or message),
- * TOB_PAST_LAST_SLOT or TOB_NO_STATE. */
+ * TOB_BAD_LENGTH (state), TOB_BAD_SETTINGS (state), TOB_BAD_LENGTH (rows or message), TOB_PAST_LAST_SLOT, or else
+ * TOB_NONE_YET (while t < T), TOB_WHOLE, TOB_LOST or TOB_CLASH. */
 uint32_t tob_lost(uint8_t *state, size_t state_len, uint8_t *rows, size_t rows_len, uint8_t *message,
                   size_t message_len);
 

@@ -14,8 +14,9 @@ pub const STATE: usize = 13;
 pub const SENDER: [u8; 4] = [0x54, 0x4F, 0x42, 0x53];
 pub const RECEIVER: [u8; 4] = [0x54, 0x4F, 0x42, 0x52];
 
-/// The answer when the state is none.
-pub const NO_STATE: u32 = 64;
+/// Document 01's numbers for settings that are not accepted and for a wrong length.
+const BAD_SETTINGS: u32 = 1;
+const BAD_LENGTH: u32 = 2;
 
 pub fn settings_of([window, delay, burst, scattered, lanes]: [u8; 5]) -> Settings {
     Settings { window, delay, burst, scattered, lanes }
@@ -30,16 +31,16 @@ pub fn state_bytes(mark: [u8; 4], state: &State) -> Vec<u8> {
     [&mark[..], &bytes_of(&state.settings), &state.due.to_be_bytes()].concat()
 }
 
-/// The state that these bytes are, if a call could have written them.
-fn state_of(mark: [u8; 4], bytes: &[u8]) -> Option<State> {
-    let bytes: [u8; STATE] = bytes.try_into().ok()?;
+/// The state that these bytes hold, or the cause that they give before any of the call's own:
+/// of another length no settings can be read, and with another mark they are none of this end's.
+fn state_of(mark: [u8; 4], bytes: &[u8]) -> Result<State, u32> {
+    let bytes: [u8; STATE] = bytes.try_into().map_err(|_| BAD_LENGTH)?;
     let [m0, m1, m2, m3, w, t, b, n, l, d0, d1, d2, d3] = bytes;
-    let state = State {
-        settings: settings_of([w, t, b, n, l]),
-        due: u32::from_be_bytes([d0, d1, d2, d3]),
-    };
-    let real = [m0, m1, m2, m3] == mark && state.settings.accepted() && state.due <= State::END;
-    real.then_some(state)
+    if [m0, m1, m2, m3] != mark {
+        return Err(BAD_SETTINGS);
+    }
+    let settings = settings_of([w, t, b, n, l]);
+    Ok(State { settings, due: u32::from_be_bytes([d0, d1, d2, d3]) })
 }
 
 /// The lengths of a message, a frame, a sender's rows and a receiver's: 0 if not accepted.
@@ -89,18 +90,19 @@ fn number(reply: Reply) -> u32 {
     }
 }
 
-/// An opening: a refused one leaves the state as it was.
+/// An opening: the settings first, then the lengths, that of the state among them. A refused one
+/// leaves the state as it was.
 fn opened(
     mark: [u8; 4],
     state: &mut [u8],
     open: impl FnOnce(Settings) -> (State, Result<(), Refusal>),
     settings: &[u8],
 ) -> u32 {
-    if state.len() != STATE {
-        return NO_STATE;
+    let settings = settings_of(settings.try_into().expect("settings are five bytes"));
+    if settings.accepted() && state.len() != STATE {
+        return BAD_LENGTH;
     }
-    let settings = settings.try_into().expect("settings are five bytes");
-    match open(settings_of(settings)) {
+    match open(settings) {
         (next, Ok(())) => {
             state.copy_from_slice(&state_bytes(mark, &next));
             0
@@ -115,8 +117,9 @@ fn moved_on(
     bytes: &mut [u8],
     call: impl FnOnce(State) -> (State, Result<u32, Refusal>),
 ) -> u32 {
-    let Some(state) = state_of(mark, bytes) else {
-        return NO_STATE;
+    let state = match state_of(mark, bytes) {
+        Ok(state) => state,
+        Err(cause) => return cause,
     };
     let (next, answer) = call(state);
     bytes.copy_from_slice(&state_bytes(mark, &next));
@@ -127,15 +130,38 @@ fn moved_on(
 mod tests {
     use super::*;
 
+    /// A loss report from a state written by hand, with the lengths that the settings give.
+    fn lost(mark: [u8; 4], settings: Settings, due: u32, state: usize) -> u32 {
+        let [message, .., rows] = lengths(&settings);
+        let mut bytes = state_bytes(mark, &State { settings, due });
+        bytes.resize(state, 0);
+        by_reference(Kind::Lost, &mut [bytes, vec![0; rows], vec![0; message]])
+    }
+
     #[test]
-    fn a_state_is_one_that_a_call_could_have_written() {
-        let state = State { settings: Settings::of_code(3, 2, 2), due: State::END };
-        let bytes = state_bytes(SENDER, &state);
-        assert_eq!(state_of(SENDER, &bytes), Some(state));
-        assert_eq!(state_of(RECEIVER, &bytes), None);
-        assert_eq!(state_of(SENDER, &bytes[..12]), None);
-        let late = State { due: State::END + 1, ..state };
-        assert_eq!(state_of(SENDER, &state_bytes(SENDER, &late)), None);
-        assert_eq!(state_of(SENDER, &state_bytes(SENDER, &State::ZEROS)), None);
+    fn what_a_state_is_refused_for() {
+        let settings = Settings::of_code(3, 2, 2);
+        let other = Settings { lanes: 65, ..settings };
+        assert_eq!(lost(RECEIVER, settings, 3, STATE), 18);
+        assert_eq!(lost(RECEIVER, settings, State::END - 1, STATE), 18);
+        assert_eq!(lost(RECEIVER, settings, State::END, STATE), 3);
+        assert_eq!(lost(RECEIVER, settings, u32::MAX, STATE), 3);
+        assert_eq!(lost(RECEIVER, other, u32::MAX, STATE), 1);
+        assert_eq!(lost(SENDER, settings, u32::MAX, STATE), 1);
+        assert_eq!(lost(SENDER, other, 3, STATE - 1), 2);
+        assert_eq!(lost(RECEIVER, settings, 3, STATE + 1), 2);
+    }
+
+    #[test]
+    fn the_settings_of_an_opening_come_before_its_lengths() {
+        let open = |settings: [u8; 5], state, rows| {
+            by_reference(Kind::OpenSender, &mut [settings.to_vec(), vec![7; state], vec![7; rows]])
+        };
+        let settings = bytes_of(&Settings::of_code(3, 2, 2));
+        let rows = lengths(&settings_of(settings))[2];
+        assert_eq!(open(settings, STATE, rows), 0);
+        assert_eq!(open(settings, STATE + 1, rows), 2);
+        assert_eq!(open(settings, STATE, rows + 1), 2);
+        assert_eq!(open([0; 5], STATE + 1, rows + 1), 1);
     }
 }

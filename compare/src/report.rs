@@ -7,7 +7,7 @@ use reference::settings::{every_code, Settings};
 use crate::call::Kind;
 
 /// Every number that a call can reply; a comparison that never met one of them proves little.
-const REPLIES: [u32; 12] = [0, 1, 2, 3, 4, 5, 6, 16, 17, 18, 19, 64];
+const REPLIES: [u32; 11] = [0, 1, 2, 3, 4, 5, 6, 16, 17, 18, 19];
 
 /// The number of accepted (T, B, N).
 const CODES: usize = 372;
@@ -88,6 +88,10 @@ impl Met {
         for reply in REPLIES {
             due(self.of_reply(reply) > 0, format!("reply {reply} was never seen"));
         }
+        for (kind, cause) in Kind::ALL.into_iter().flat_map(refusals) {
+            let met = self.replies.contains_key(&(kind, cause));
+            due(met, format!("{} was never refused with {cause}", kind.name()));
+        }
         let count = every_code().len();
         due(count == CODES, format!("{count} accepted (T, B, N), and not {CODES}"));
         let (met, covered) = (self.codes.len(), self.covered());
@@ -99,6 +103,16 @@ impl Met {
         due(self.lengths > 0 && self.fair > 0, "a part did not run".to_string());
         missing
     }
+}
+
+/// Each cause that document 01's table has for a kind of call.
+fn refusals(kind: Kind) -> impl Iterator<Item = (Kind, u32)> {
+    let last = match kind {
+        Kind::OpenSender | Kind::OpenReceiver => 2,
+        Kind::Send | Kind::Lost => 3,
+        Kind::Heard => 6,
+    };
+    (1..=last).map(move |cause| (kind, cause))
 }
 
 /// The accepted replies that calls with a code can give.

@@ -7,12 +7,12 @@ use reference::state::State;
 use super::bounds;
 use crate::call::{Call, Kind};
 use crate::draw::Draws;
-use crate::model::{RECEIVER, SENDER};
+use crate::model::{RECEIVER, SENDER, STATE};
 
 type Fault = fn(&mut Draws, &mut Call);
 
 /// Those of calls that start from a state.
-const OF_STATE: [Fault; 6] = [length, mark, other_kind, state_byte, settings, due];
+const OF_STATE: [Fault; 7] = [length, mark, other_kind, state_byte, settings, window, due];
 const OF_FRAME: [Fault; 4] = [frame_mark, frame_settings, frame_slot, frame_header];
 
 /// The call with one to three faults.
@@ -74,7 +74,7 @@ fn other_kind(_: &mut Draws, call: &mut Call) {
 }
 
 fn state_byte(draws: &mut Draws, call: &mut Call) {
-    change(draws, call.thing("state"), 0, 13);
+    change(draws, call.thing("state"), 0, STATE);
 }
 
 /// The state's settings become others, which are seldom accepted.
@@ -83,6 +83,13 @@ fn settings(draws: &mut Draws, call: &mut Call) {
     let place = draws.below(5);
     if let Some(settings) = call.thing("state").get_mut(4..9) {
         settings[place] = others[place];
+    }
+}
+
+/// The state's window is T or less: the settings are not accepted, and every length is still theirs.
+fn window(draws: &mut Draws, call: &mut Call) {
+    if let Some([window, delay]) = call.thing("state").get_mut(4..6) {
+        *window = draws.below(usize::from(*delay) + 1) as u8;
     }
 }
 
@@ -99,7 +106,7 @@ fn at_end(_: &mut Draws, call: &mut Call) {
 }
 
 fn set_due(call: &mut Call, due: u32) {
-    if let Some(bytes) = call.thing("state").get_mut(9..13) {
+    if let Some(bytes) = call.thing("state").get_mut(9..STATE) {
         bytes.copy_from_slice(&due.to_be_bytes());
     }
 }
