@@ -12,7 +12,6 @@ ghost use Rattle.galois.specs.Byte.{reciprocal};
 ghost use Rattle.galois.specs.Table.{table};
 ghost use Rattle.code.specs.Settings.{kOf};
 ghost use Rattle.code.specs.Word.{systematicOf};
-ghost use Rattle.lanes.specs.Lanes.{Clear};
 ghost use Rattle.protocol.specs.Lengths.{messageLen};
 ghost use Rattle.protocol.specs.Verdict.{verdict, bufferOf};
 ghost use Rattle.places.specs.Places.{Ready};
@@ -28,40 +27,38 @@ fn worse(a: u8, b: u8) -> u8
     a
 }
 
-// Symbol i of message t in all lanes: its mark, and its bytes where the mark is 0. The matrix is the systematic form; of the pairs only
-// the zeros matter, and they stay.
+// Symbol i of message t in all lanes: its mark, and its bytes where the mark is 0. The matrix is the systematic form.
 fn write_symbol(
     s: Settings,
     rows: &[u8],
     due: usize,
     t: usize,
     i: usize,
-    matrix: &[[u8; 16]; 16],
+    matrix: [[u8; 16]; 16],
     reciprocals: &[u8; 256],
-    pairs: &mut [[u8; 64]; 32],
     out: &mut [u8],
 ) -> u8
-    requires { ⌜ Ready s (now rows) t × (due < 4294967296) × (i < kOf s) × (now matrix ≡ systematicOf s) × Clear (now pairs) × (length (now out) ≡ s .lanes) × (now reciprocals ≡ table 256 reciprocal) ⌝ }
-    ensures { λ r. ⌜ Told s (now (rows .entry)) due t i r (now (out .exit)) × Clear (now (pairs .exit)) ⌝ }
+    requires { ⌜ Ready s (now rows) t × (due < 4294967296) × (i < kOf s) × (matrix ≡ systematicOf s)
+        × (length (now out) ≡ s .lanes) × (now reciprocals ≡ table 256 reciprocal) ⌝ }
+    ensures { λ r. ⌜ Told s (now (rows .entry)) due t i r (now (out .exit)) ⌝ }
 {
     let mut places = [0usize; 16];
     let mut flags = [0u8; 16];
     let mut roles = [16u8; 16];
     locate(s, rows, due + i, t, i, &mut places, &mut flags, &mut roles);
-    let mut reduced = *matrix;
-    reduction::eliminate(s, reciprocals, &mut reduced, &mut flags, &mut roles);
-    lanes::answer(s, &reduced, &roles, &flags, &places, rows, i, pairs, out)
+    let reduced = reduction::eliminate(s, reciprocals, matrix, &mut flags, &mut roles);
+    lanes::answer(s, &reduced, &roles, &flags, &places, rows, i, out)
 }
 
 // What the receiver says of message t, once the slots below due are reported. The buffer gets the message when it is whole, else
 // zeros.
 pub(crate) fn decided(s: Settings, rows: &[u8], due: usize, t: usize, message: &mut [u8]) -> Reply
     requires { ⌜ Ready s (now rows) t × (due < 4294967296) × (length (now message) ≡ messageLen s) ⌝ }
-    ensures { λ r. ⌜ (r ≡ verdict s (now (rows .entry)) due t) × (now (message .exit) ≡ bufferOf s (now (rows .entry)) due t r) ⌝ }
+    ensures said { λ r. ⌜ r ≡ verdict s (now (rows .entry)) due t ⌝ }
+    ensures message { λ r. ⌜ now (message .exit) ≡ bufferOf s (now (rows .entry)) due t r ⌝ }
 {
     let matrix = generator::systematic(s);
     let reciprocals = galois::reciprocals();
-    let mut pairs = [[0u8; 64]; 32];
     let lanes = s.lanes as usize;
     let mut worst: u8 = 0;
     let mut i: usize = 0;
@@ -73,9 +70,8 @@ pub(crate) fn decided(s: Settings, rows: &[u8], due: usize, t: usize, message: &
             due,
             t,
             i,
-            &matrix,
+            matrix,
             &reciprocals,
-            &mut pairs,
             &mut message[start..start + lanes],
         );
         worst = worse(worst, mark);

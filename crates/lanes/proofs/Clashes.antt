@@ -20,8 +20,8 @@ use Rattle.code.specs.Settings.{kOf, nOf}
 use Rattle.code.proofs.Shape.{Shape}
 use Rattle.elimination.specs.Elimination.{Reduced, free, cell, combined, clashes, differs, knownIn}
 use Rattle.elimination.proofs.Terms.{freeDiffers}
-use Rattle.lanes.specs.Lanes.{laneByte, countOf, Own, Gathered, sumClash, sumsClash, clashAt, lanesClash}
-use Rattle.lanes.proofs.Shares.{front-length, front-lane, weighted-combined}
+use Rattle.lanes.specs.Lanes.{laneByte, countOf, Own, sumClash, sumsClash, clashAt, lanesClash}
+use Rattle.lanes.proofs.Shares.{front-length, front-lane, Shared, weighted-combined}
 
 -- two bytes differ
 abbrev pub unlike : ℕ → ℕ → Bool
@@ -104,14 +104,14 @@ module _ (s : Settings) (x : Reduced) (flags places bytes : List ℕ) where
       (both-pass known (clashAt s x places bytes q) (and-left known differs (found .2))
       (some-any (s .lanes) (λ v. unlike (combined s x (laneByte s places bytes v) q) (laneByte s places bytes v q)) v h (and-right known differs (found .2)))))
 
-  module _ (pairs : List (List ℕ)) (h : Shape s) (gathered : Gathered s (x .roles) places bytes pairs) where
+  module _ (pairs : List (List ℕ)) (h : Shape s) (shared : Shared s (x .roles) places bytes pairs) where
     -- the weighted sums clash where the combined sums do
     clash-sum : (q : ℕ) → sumClash s (x .rows) pairs places bytes q ≡ clashAt s x places bytes q
     unfolding sumClash clashAt
     clash-sum q =
         any-same (s .lanes) (λ v. unlike (getD (weightedOf (x .rows) q pairs (countOf s)) v 0) (laneByte s places bytes v q))
         (λ v. unlike (combined s x (laneByte s places bytes v) q) (laneByte s places bytes v q))
-        (λ v lane. ap (λ (b : ℕ). unlike b (laneByte s places bytes v q)) (weighted-combined s x places bytes pairs h gathered q v lane))
+        (λ v lane. ap (λ (b : ℕ). unlike b (laneByte s places bytes v q)) (weighted-combined s x places bytes pairs h shared q v lane))
 
     pub clash-sums : sumsClash s (x .rows) pairs flags places bytes ≡ lanesClash s x flags places bytes
     unfolding sumsClash

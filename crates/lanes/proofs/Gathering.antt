@@ -2,28 +2,23 @@
 use mathlib.Core.Path.{_≡_, sym, ap, _∙_, subst}
 use mathlib.Core.List.{List}
 use mathlib.Core.Logic.{⊎-elim}
-use Prim.Native.Nat.{ℕ, _+_, _*_, _-_, _≤_, _<_}
+use Prim.Native.Nat.{ℕ, zero, suc, _+_, _*_, _-_, _≤_, _<_}
+use native.Mathlib.Nat.{not-suc-le-zero}
+use native.Mathlib.Numerals.{add-one}
 use native.Mathlib.Omega.{arith}
 use borrow.Author.Tests.{lt-ltb, le-ltb}
-use lib.ListN.{length, getD, take, drop, replicate, length-take, length-drop}
+use lib.ListN.{length, getD, take, drop, length-take, length-drop}
 use lib.Seq.{getD-take, getD-drop}
 use Rattle.galois.proofs.ByIndex.{is-table, length-table, getD-table}
 use Rattle.galois.proofs.Cases.{le-or-lt}
-use Rattle.vectors.specs.Pairs.{vectorOf, pairedUp}
-use Rattle.vectors.proofs.PairLaws.{blank-wide, blank-paired, paired-wide, paired-kept, paired-other, paired-first, paired-no-first, paired-second, paired-no-second}
+use Rattle.vectors.specs.Pairs.{vectorOf, pairedUp, Wide, Paired}
+use Rattle.vectors.proofs.PairLaws.{blankPairs, blank-wide, blank-paired, paired-wide, paired-kept, paired-other}
+use Rattle.vectors.proofs.PairLaws.{paired-first, paired-no-first, paired-second, paired-no-second}
 use Rattle.code.specs.declared.settings.Settings.{Settings}
 use Rattle.code.specs.Settings.{nOf}
 use Rattle.code.proofs.Shape.{Shape}
-use Rattle.lanes.specs.Lanes.{Held, Clear, Gathered, laneByte, countOf, roleOf, rowByte, placeOf, heldAt, keptOf}
-use Rattle.lanes.proofs.Shares.{lane-inside, lane-outside}
-
--- a vector of zeros
-abbrev pub none : List ℕ
-none = replicate {A = ℕ} 64 0
-
--- 32 vectors of zeros
-pub clear-start : Clear (replicate {A = List ℕ} 32 none)
-clear-start = record { wide = blank-wide; paired = blank-paired 8 (omega arith) }
+use Rattle.lanes.specs.Lanes.{Held, laneByte, countOf, roleOf, rowByte, placeOf, heldAt, keptOf, pairPut, gatheredOf}
+use Rattle.lanes.proofs.Shares.{lane-inside, lane-outside, Shared}
 
 -- a position of the word, and one past it
 module _ (s : Settings) (p : ℕ) where
@@ -75,23 +70,9 @@ module _ (s : Settings) (places bytes : List ℕ) (p : ℕ) where
   pub held-below : ((q : ℕ) → getD bytes q 0 < 256) → (v : ℕ) → v < s .lanes → getD (heldAt s places bytes p) v 0 < 256
   held-below small v lane = omega (arith, held-byte v lane, small (placeOf s places p + v))
 
--- the vectors of the first m rows are put
-abbrev pub Shared : Settings → List ℕ → List ℕ → List ℕ → ℕ → List (List ℕ) → Type 0
-Shared s roles places bytes m pairs =
-    (r v : ℕ) → r < m → v < s .lanes → getD (vectorOf pairs r) v 0 ≡ rowByte s roles places bytes r v
+-- ---- one pair
 
--- equal bytes and masks make equal pairs
-pub put-equal : (pairs : List (List ℕ)) (j : ℕ) {first first₂ second second₂ : List ℕ} {a a₂ b b₂ : ℕ}
-    → first ≡ first₂ → a ≡ a₂ → second ≡ second₂ → b ≡ b₂ → pairedUp pairs j first a second b ≡ pairedUp pairs j first₂ a₂ second₂ b₂
-put-equal pairs j p q r t = cc
-
--- the table with pair j put
-abbrev pub putPair : Settings → List ℕ → List ℕ → List ℕ → ℕ → List (List ℕ) → List (List ℕ)
-putPair s roles places bytes j pairs =
-    pairedUp pairs j (heldAt s places bytes (roleOf s roles (j * 2))) (keptOf s (roleOf s roles (j * 2)))
-    (heldAt s places bytes (roleOf s roles (j * 2 + 1))) (keptOf s (roleOf s roles (j * 2 + 1)))
-
-module _ (s : Settings) (roles places bytes : List ℕ) (h : Shape s) (pairs : List (List ℕ)) (j : ℕ) (few : j < 8) (clear : Clear pairs) where
+module _ (s : Settings) (roles places bytes : List ℕ) (j : ℕ) (pairs : List (List ℕ)) where
   -- the positions of the two rows' pivots
   abbrev a : ℕ
   a = roleOf s roles (j * 2)
@@ -106,77 +87,134 @@ module _ (s : Settings) (roles places bytes : List ℕ) (h : Shape s) (pairs : L
   abbrev second : List ℕ
   second = heldAt s places bytes b
 
-  long : length first ≡ s .lanes
-  long = held-length s places bytes a
+  -- the table with them
+  abbrev put : List (List ℕ)
+  put = pairPut s roles places bytes j pairs
 
-  fits : length first ≤ 64
-  fits = omega (arith, long, h .lanes-few)
+  -- equal bytes under equal masks make it
+  pub put-equal : (x y : List ℕ) (keep also : ℕ) → x ≡ first → keep ≡ keptOf s a → y ≡ second → also ≡ keptOf s b
+      → pairedUp pairs j x keep y also ≡ put
+  unfolding pairPut
+  put-equal x y keep also p q r t = cc
 
-  -- the pairs stay pairs
-  pub put-clear : Clear (putPair s roles places bytes j pairs)
-  put-clear =
-      record {
-        wide = paired-wide pairs j first (keptOf s a) second (keptOf s b) (clear .wide) few fits;
-        paired = paired-kept pairs j first (keptOf s a) second (keptOf s b) (clear .wide) few fits 8 (clear .paired);
-      }
+  module _ (h : Shape s) (few : j < 8) (wide : Wide pairs) where
+    long : length first ≡ s .lanes
+    long = held-length s places bytes a
 
-  module _ (small : (q : ℕ) → getD bytes q 0 < 256) (v : ℕ) (lane : v < s .lanes) where
-    inside : v < length first
-    inside = omega (arith, long)
+    fits : length first ≤ 64
+    fits = omega (arith, long, h .lanes-few)
 
-    -- the two vectors of pair j
-    put-first : getD (vectorOf (putPair s roles places bytes j pairs) (j * 2)) v 0 ≡ laneByte s places bytes v a
-    put-first =
-        ⊎-elim
-        (λ past.
-        paired-no-first pairs j first (keptOf s a) second (keptOf s b) (clear .wide) few fits v inside (kept-past s a past)
-        ∙ sym (lane-outside s places bytes v a past))
-        (λ below.
-        paired-first pairs j first (keptOf s a) second (keptOf s b) (clear .wide) few fits v inside (held-below s places bytes a small v lane) (kept-inside s a below)
-        ∙ held-lane s places bytes a v lane below)
-        (le-or-lt (nOf s) a)
+    -- the table has as many vectors and lanes
+    put-wide : Wide put
+    unfolding pairPut
+    put-wide = paired-wide pairs j first (keptOf s a) second (keptOf s b) wide few fits
 
-    put-second : getD (vectorOf (putPair s roles places bytes j pairs) (j * 2 + 1)) v 0 ≡ laneByte s places bytes v b
-    put-second =
-        ⊎-elim
-        (λ past.
-        paired-no-second pairs j first (keptOf s a) second (keptOf s b) (clear .wide) few fits v inside (kept-past s b past)
-        ∙ sym (lane-outside s places bytes v b past))
-        (λ below.
-        paired-second pairs j first (keptOf s a) second (keptOf s b) (clear .wide) few fits v inside (held-below s places bytes b small v lane) (kept-inside s b below)
-        ∙ held-lane s places bytes b v lane below)
-        (le-or-lt (nOf s) b)
+    -- and is a table of pairs again
+    put-paired : (count : ℕ) → Paired count pairs → Paired count put
+    unfolding pairPut
+    put-paired = paired-kept pairs j first (keptOf s a) second (keptOf s b) wide few fits
 
-  -- two more vectors
-  pub shared-more : ((q : ℕ) → getD bytes q 0 < 256) → Shared s roles places bytes (j * 2) pairs
-      → Shared s roles places bytes ((j + 1) * 2) (putPair s roles places bytes j pairs)
-  shared-more small before r v below lane =
-      ⊎-elim (λ other. ⊎-elim at-second (at-first other) (le-or-lt (j * 2 + 1) r))
+    -- a vector of another pair is as it was
+    put-other : (r : ℕ) → r < j * 2 → vectorOf put r ≡ vectorOf pairs r
+    unfolding pairPut
+    put-other r less = paired-other pairs j first (keptOf s a) second (keptOf s b) wide few fits r (omega arith) (λ same. omega arith)
+
+    module _ (small : (q : ℕ) → getD bytes q 0 < 256) (v : ℕ) (lane : v < s .lanes) where
+      inside : v < length first
+      inside = omega (arith, long)
+
+      -- the two vectors of pair j
+      put-first : getD (vectorOf put (j * 2)) v 0 ≡ laneByte s places bytes v a
+      unfolding pairPut
+      put-first =
+          ⊎-elim
+          (λ past.
+          paired-no-first pairs j first (keptOf s a) second (keptOf s b) wide few fits v inside (kept-past s a past)
+          ∙ sym (lane-outside s places bytes v a past))
+          (λ below.
+          paired-first pairs j first (keptOf s a) second (keptOf s b) wide few fits v inside (held-below s places bytes a small v lane)
+          (kept-inside s a below)
+          ∙ held-lane s places bytes a v lane below)
+          (le-or-lt (nOf s) a)
+
+      put-second : getD (vectorOf put (j * 2 + 1)) v 0 ≡ laneByte s places bytes v b
+      unfolding pairPut
+      put-second =
+          ⊎-elim
+          (λ past.
+          paired-no-second pairs j first (keptOf s a) second (keptOf s b) wide few fits v inside (kept-past s b past)
+          ∙ sym (lane-outside s places bytes v b past))
+          (λ below.
+          paired-second pairs j first (keptOf s a) second (keptOf s b) wide few fits v inside (held-below s places bytes b small v lane)
+          (kept-inside s b below)
+          ∙ held-lane s places bytes b v lane below)
+          (le-or-lt (nOf s) b)
+
+-- ---- one pair after another
+
+-- one more pair
+pub gathered-more : (s : Settings) (roles places bytes : List ℕ) (pairs : List (List ℕ)) (j : ℕ) (before : List (List ℕ))
+    → before ≡ gatheredOf s roles places bytes j pairs → pairPut s roles places bytes j before ≡ gatheredOf s roles places bytes (j + 1) pairs
+unfolding gatheredOf
+gathered-more s roles places bytes pairs j before is = rw add-one (ap (pairPut s roles places bytes j) is)
+
+module _ (s : Settings) (roles places bytes : List ℕ) (h : Shape s) (pairs : List (List ℕ)) (wide : Wide pairs) where
+  -- the table with the first m pairs
+  abbrev gathered : ℕ → List (List ℕ)
+  gathered m = gatheredOf s roles places bytes m pairs
+
+  -- has as many vectors and lanes
+  pub gathered-wide : (m : ℕ) → m ≤ 8 → Wide (gathered m)
+  unfolding gatheredOf
+  gathered-wide zero few = wide
+  gathered-wide (suc m) few = put-wide s roles places bytes m (gathered m) h few (gathered-wide m (omega arith))
+
+  -- is a table of pairs again
+  gathered-paired : (m count : ℕ) → m ≤ 8 → Paired count pairs → Paired count (gathered m)
+  unfolding gatheredOf
+  gathered-paired zero count few paired = paired
+  gathered-paired (suc m) count few paired =
+      put-paired s roles places bytes m (gathered m) h few (gathered-wide m (omega arith)) count (gathered-paired m count (omega arith) paired)
+
+  -- and its vectors are the bytes at the pivots' positions
+  gathered-shares : ((q : ℕ) → getD bytes q 0 < 256) → (m r v : ℕ) → m ≤ 8 → r < m * 2 → v < s .lanes
+      → getD (vectorOf (gathered m) r) v 0 ≡ rowByte s roles places bytes r v
+  unfolding gatheredOf
+  gathered-shares small zero r v few below lane = absurd (not-suc-le-zero below)
+  gathered-shares small (suc m) r v few below lane =
+      ⊎-elim (λ later. ⊎-elim at-second (at-first later) (le-or-lt (m * 2 + 1) r))
       (λ less.
-      ap (λ (l : List ℕ). getD l v 0)
-      (paired-other pairs j first (keptOf s a) second (keptOf s b) (clear .wide) few fits r (omega arith) (λ e. omega arith)) ∙ before r v less lane)
-      (le-or-lt (j * 2) r)
+      ap (λ (l : List ℕ). getD l v 0) (put-other s roles places bytes m (gathered m) h few before r less)
+      ∙ gathered-shares small m r v (omega arith) less lane)
+      (le-or-lt (m * 2) r)
     where
+      before : Wide (gathered m)
+      before = gathered-wide m (omega arith)
+
       Put : ℕ → Type 0
-      Put r = getD (vectorOf (putPair s roles places bytes j pairs) r) v 0 ≡ rowByte s roles places bytes r v
+      Put r = getD (vectorOf (pairPut s roles places bytes m (gathered m)) r) v 0 ≡ rowByte s roles places bytes r v
 
-      at-second : j * 2 + 1 ≤ r → Put r
-      at-second h = let e : j * 2 + 1 ≡ r = omega arith in subst Put e (put-second small v lane)
+      at-second : m * 2 + 1 ≤ r → Put r
+      at-second above =
+          let same : m * 2 + 1 ≡ r = omega arith in
+          subst Put same (put-second s roles places bytes m (gathered m) h few before small v lane)
 
-      at-first : j * 2 ≤ r → r < j * 2 + 1 → Put r
-      at-first above h = let e : j * 2 ≡ r = omega arith in subst Put e (put-first small v lane)
+      at-first : m * 2 ≤ r → r < m * 2 + 1 → Put r
+      at-first above less =
+          let same : m * 2 ≡ r = omega arith in
+          subst Put same (put-first s roles places bytes m (gathered m) h few before small v lane)
 
--- the vectors of all rows
-pub all-gathered : (s : Settings) (roles places bytes : List ℕ) (pairs : List (List ℕ)) → countOf s ≤ 8 → Clear pairs
-    → Shared s roles places bytes (countOf s * 2) pairs → Gathered s roles places bytes pairs
-all-gathered s roles places bytes pairs few clear shared =
-    record {
-      clear = clear;
-      paired =
-          record {
-            few = few;
-            zeros = λ j v below lane. clear .paired .zeros j v (omega arith) lane;
-            sums = λ j v below lane. clear .paired .sums j v (omega arith) lane;
-          };
-      shares = shared;
-    }
+-- ---- all of them, over zeros
+
+module _ (s : Settings) (roles places bytes : List ℕ) (h : Shape s) where
+  -- there are at most 8 pairs
+  pub pairs-few : countOf s ≤ 8
+  pairs-few = omega arith
+
+  pub all-paired : Paired (countOf s) (gatheredOf s roles places bytes (countOf s) blankPairs)
+  all-paired =
+      gathered-paired s roles places bytes h blankPairs blank-wide (countOf s) (countOf s) pairs-few (blank-paired (countOf s) pairs-few)
+
+  pub all-shared : ((q : ℕ) → getD bytes q 0 < 256) → Shared s roles places bytes (gatheredOf s roles places bytes (countOf s) blankPairs)
+  all-shared small r v below lane =
+      gathered-shares s roles places bytes h blankPairs blank-wide small (countOf s) r v pairs-few below lane

@@ -20,7 +20,7 @@ use Rattle.code.specs.declared.settings.Settings.{Settings}
 use Rattle.code.specs.Settings.{kOf, nOf}
 use Rattle.code.proofs.Shape.{Shape}
 use Rattle.elimination.specs.Elimination.{Reduced, free, cell, combined}
-use Rattle.lanes.specs.Lanes.{laneByte, share, countOf, roleOf, rowByte, Own, Gathered, combinedLanes}
+use Rattle.lanes.specs.Lanes.{laneByte, share, countOf, roleOf, rowByte, Own, combinedLanes}
 
 -- the bytes of a lane are those from the places on, and 0 outside the word
 module _ (s : Settings) (places bytes : List ℕ) (v p : ℕ) where
@@ -84,6 +84,11 @@ module _ (s : Settings) (roles : List ℕ) (r : ℕ) where
   past-zero places bytes v few h =
       ap (laneByte s places bytes v) (sym (role-past h)) ∙ lane-outside s places bytes v 16 few
 
+-- the vectors of a table of pairs are the bytes at the pivots' positions
+abbrev pub Shared : Settings → List ℕ → List ℕ → List ℕ → List (List ℕ) → Type 0
+Shared s roles places bytes pairs =
+    (r v : ℕ) → r < countOf s * 2 → v < s .lanes → getD (vectorOf pairs r) v 0 ≡ rowByte s roles places bytes r v
+
 module _ (s : Settings) (x : Reduced) (places bytes : List ℕ) where
   -- a row that is 0 at q has no share
   pub share-zero : (q r v : ℕ) → cell (x .rows) r q ≡ 0 → share s x places bytes q r v ≡ 0
@@ -118,16 +123,16 @@ module _ (s : Settings) (x : Reduced) (places bytes : List ℕ) where
       go false e = times-comm here byte
 
   -- the weighted sum of the vectors is the combined sum
-  pub weighted-combined : (pairs : List (List ℕ)) → Shape s → Gathered s (x .roles) places bytes pairs → (q v : ℕ) → v < s .lanes
+  pub weighted-combined : (pairs : List (List ℕ)) → Shape s → Shared s (x .roles) places bytes pairs → (q v : ℕ) → v < s .lanes
       → getD (weightedOf (x .rows) q pairs (countOf s)) v 0 ≡ combined s x (laneByte s places bytes v) q
   unfolding weightedOf combined cell
-  weighted-combined pairs h gathered q v lane =
+  weighted-combined pairs h shared q v lane =
       let f : ℕ → ℕ = λ r. cell (x .rows) r q ⊗ rowByte s (x .roles) places bytes r v in
       let rest : ℕ = countOf s * 2 - kOf s in
       let whole : countOf s * 2 ≡ kOf s + rest = omega arith in
       getD-table 64 (λ v. sum (countOf s * 2) (λ r. cell (x .rows) r q ⊗ getD (vectorOf pairs r) v 0)) v 0 (omega arith)
       ∙ sum-equal (countOf s * 2) (λ r. cell (x .rows) r q ⊗ getD (vectorOf pairs r) v 0) f
-      (λ r below. ap (λ (b : ℕ). cell (x .rows) r q ⊗ b) (gathered .shares r v below lane))
+      (λ r below. ap (λ (b : ℕ). cell (x .rows) r q ⊗ b) (shared r v below lane))
       ∙ ap (λ (m : ℕ). sum m f) whole
       ∙ sum-split (kOf s) rest f
       ∙ ap (λ (z : ℕ). sum (kOf s) f ⊕ z)
@@ -139,12 +144,12 @@ module _ (s : Settings) (x : Reduced) (places bytes : List ℕ) where
       ∙ sum-equal (kOf s) f (λ r. share s x places bytes q r v) (λ r below. share-term q r v (h .symbols-few) below)
 
   -- so in all lanes
-  pub sums-combined : (pairs : List (List ℕ)) → Shape s → Gathered s (x .roles) places bytes pairs → (q : ℕ)
+  pub sums-combined : (pairs : List (List ℕ)) → Shape s → Shared s (x .roles) places bytes pairs → (q : ℕ)
       → table (s .lanes) (λ v. getD (weightedOf (x .rows) q pairs (countOf s)) v 0) ≡ combinedLanes s x places bytes q
   unfolding combinedLanes
-  sums-combined pairs h gathered q =
+  sums-combined pairs h shared q =
       table-equal (s .lanes) (λ v. getD (weightedOf (x .rows) q pairs (countOf s)) v 0) (λ v. combined s x (laneByte s places bytes v) q)
-      (weighted-combined pairs h gathered q)
+      (weighted-combined pairs h shared q)
 
   module _ (i : ℕ) (own : Own s x i) (role : getD (x .roles) i 16 ≡ i) (h : Shape s) (below : i < kOf s) where
     -- row i is a pivot

@@ -2,13 +2,13 @@
 use mathlib.Core.Path.{_≡_}
 use mathlib.Core.Bool.{Bool, true, false, cond, not, _&&_}
 use mathlib.Core.List.{List}
-use Prim.Native.Nat.{ℕ, _+_, _*_, _/_, _≤_, _<_}
+use Prim.Native.Nat.{ℕ, zero, suc, _+_, _*_, _/_, _≤_, _<_}
 use lib.Dec.{T, eqb, ltb}
 use lib.ListN.{length, getD}
 use Rattle.galois.specs.Bounded.{any}
 use Rattle.galois.specs.Byte.{_⊗_}
 use Rattle.galois.specs.Table.{table}
-use Rattle.vectors.specs.Pairs.{vectorOf, Wide, Paired, weightedOf}
+use Rattle.vectors.specs.Pairs.{pairedUp, weightedOf}
 use Rattle.code.specs.declared.settings.Settings.{Settings}
 use Rattle.code.specs.Settings.{accepted, kOf, nOf}
 use Rattle.elimination.specs.Elimination.{Reduced, free, cell, combined, clashes, differs, knownIn}
@@ -29,11 +29,6 @@ laneByte s places bytes v p = cond (ltb p (nOf s)) (getD bytes (getD places p 0 
 -- row r's share of the combined sum of lane v at position q
 abbrev pub share : Settings → Reduced → List ℕ → List ℕ → ℕ → ℕ → ℕ → ℕ
 share s x places bytes q r v = cond (free (x .roles) r) 0 (laneByte s places bytes v (getD (x .roles) r 16) ⊗ cell (x .rows) r q)
-
--- the pairs that a caller lends: 32 vectors of 64 lanes, each pair with zeros and its sum
-pub record Clear (pairs : List (List ℕ)) : Type 0 where
-  pub wide : Wide pairs
-  pub paired : Paired 8 pairs
 
 -- where row i is the pivot of position i, column i is a unit
 abbrev pub Own : Settings → Reduced → ℕ → Type 0
@@ -63,11 +58,16 @@ heldAt s places bytes p = table (s .lanes) (λ v. getD bytes (placeOf s places p
 unfoldable pub keptOf : Settings → ℕ → ℕ
 keptOf s p = cond (ltb p (nOf s)) 255 0
 
--- a table of pairs whose vectors are the bytes at the pivots' positions
-pub record Gathered (s : Settings) (roles places bytes : List ℕ) (pairs : List (List ℕ)) : Type 0 where
-  pub clear : Clear pairs
-  pub paired : Paired (countOf s) pairs
-  pub shares : (r v : ℕ) → r < countOf s * 2 → v < s .lanes → getD (vectorOf pairs r) v 0 ≡ rowByte s roles places bytes r v
+-- a table of pairs with the bytes at the positions of the pivots of rows 2j and 2j + 1 as pair j; zeros where a row has none
+unfoldable pub pairPut : Settings → List ℕ → List ℕ → List ℕ → ℕ → List (List ℕ) → List (List ℕ)
+pairPut s roles places bytes j pairs =
+    pairedUp pairs j (heldAt s places bytes (roleOf s roles (j * 2))) (keptOf s (roleOf s roles (j * 2)))
+    (heldAt s places bytes (roleOf s roles (j * 2 + 1))) (keptOf s (roleOf s roles (j * 2 + 1)))
+
+-- a table of pairs with the bytes of the first m pairs of rows put into it
+unfoldable pub gatheredOf : Settings → List ℕ → List ℕ → List ℕ → ℕ → List (List ℕ) → List (List ℕ)
+gatheredOf s roles places bytes zero pairs = pairs
+gatheredOf s roles places bytes (suc m) pairs = pairPut s roles places bytes m (gatheredOf s roles places bytes m pairs)
 
 -- in some lane the weighted sum of the vectors at position q is not the byte that arrived
 unfoldable pub sumClash : Settings → List (List ℕ) → List (List ℕ) → List ℕ → List ℕ → ℕ → Bool

@@ -54,7 +54,8 @@ pub(crate) fn clashing(
     pairs: &[[u8; 64]; 32],
 ) -> bool
     requires { ⌜ Held s (now places) (now bytes) × Paired (countOf s) (now pairs) × ParityOnly s (now flags) ⌝ }
-    ensures { λ r. ⌜ r ≡ sumsClash s (now (rows .entry)) (now (pairs .entry)) (now (flags .entry)) (now (places .entry)) (now (bytes .entry)) ⌝ }
+    ensures { λ r. ⌜ r
+        ≡ sumsClash s (now (rows .entry)) (now (pairs .entry)) (now (flags .entry)) (now (places .entry)) (now (bytes .entry)) ⌝ }
 {
     let mut q = s.sources();
     while q < s.symbols() {

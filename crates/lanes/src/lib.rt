@@ -13,11 +13,11 @@ ghost use mathlib.Core.Path.{_≡_};
 ghost use Prim.Native.Nat.{_<_};
 ghost use lib.ListN.{length};
 ghost use Rattle.code.specs.Settings.{kOf};
-ghost use Rattle.lanes.specs.Lanes.{Held, ParityOnly, Clear, Own, lanesSaid};
+ghost use Rattle.lanes.specs.Lanes.{Held, ParityOnly, Own, lanesSaid};
 
 // What elimination says of position i, where no source has a flag: 2 if some lane clashes at a position whose flag is 1, else 1 if the
 // symbol is lost, else 0, and `out` gets the shared bytes. Of the codewords, received or not, `bytes` has symbol p of lane v at place p
-// plus v. In `pairs` only the zeros and the sums matter, and they stay in their places.
+// plus v.
 pub fn answer(
     s: Settings,
     rows: &[[u8; 16]; 16],
@@ -26,14 +26,17 @@ pub fn answer(
     places: &[usize; 16],
     bytes: &[u8],
     i: usize,
-    pairs: &mut [[u8; 64]; 32],
     out: &mut [u8],
 ) -> u8
-    requires { ⌜ Held s (now places) (now bytes) × (i < kOf s) × (length (now roles) ≡ 16) × (length (now out) ≡ s .lanes) × Clear (now pairs) × Own s (record { rows = now rows; roles = now roles }) i × ParityOnly s (now flags) ⌝ }
-    ensures { λ r. ⌜ (record { mark = r; symbol = now (out .exit) } ≡ lanesSaid s (record { rows = now (rows .entry); roles = now (roles .entry) }) (now (flags .entry)) (now (places .entry)) (now (bytes .entry)) i (now (out .entry))) × Clear (now (pairs .exit)) ⌝ }
+    requires { ⌜ Held s (now places) (now bytes) × (i < kOf s) × (length (now roles) ≡ 16) × (length (now out) ≡ s .lanes)
+        × Own s (record { rows = now rows; roles = now roles }) i × ParityOnly s (now flags) ⌝ }
+    ensures { λ r. ⌜ record { mark = r; symbol = now (out .exit) }
+        ≡ lanesSaid s (record { rows = now (rows .entry); roles = now (roles .entry) }) (now (flags .entry)) (now (places .entry))
+        (now (bytes .entry)) i (now (out .entry)) ⌝ }
 {
-    gather(s, roles, places, bytes, pairs);
-    if clashing(s, rows, flags, places, bytes, pairs) {
+    let mut pairs = [[0u8; 64]; 32];
+    gather(s, roles, places, bytes, &mut pairs);
+    if clashing(s, rows, flags, places, bytes, &pairs) {
         return 2;
     }
     if roles[i] == i as u8 {
@@ -43,6 +46,6 @@ pub fn answer(
     if differing(s, rows, roles, i) {
         return 1;
     }
-    write_sum(s, rows, pairs, i, out);
+    write_sum(s, rows, &pairs, i, out);
     0
 }

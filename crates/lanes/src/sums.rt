@@ -2,12 +2,12 @@
 use code::Settings;
 use vectors::pair_up;
 ghost use mathlib.Core.Path.{_≡_};
-ghost use Prim.Native.Nat.{_+_, _*_, _<_};
+ghost use Prim.Native.Nat.{_<_};
 ghost use lib.Dec.{T};
 ghost use lib.ListN.{length};
-ghost use Rattle.vectors.specs.Pairs.{Wide, pairedUp};
+ghost use Rattle.vectors.specs.Pairs.{Wide};
 ghost use Rattle.code.specs.Settings.{accepted};
-ghost use Rattle.lanes.specs.Lanes.{Held, Clear, Gathered, roleOf, placeOf, heldAt, keptOf};
+ghost use Rattle.lanes.specs.Lanes.{Held, countOf, roleOf, placeOf, keptOf, pairPut, gatheredOf};
 
 // A byte as an index.
 fn wide(x: u8) -> usize
@@ -58,7 +58,8 @@ fn put_pair(
     pairs: &mut [[u8; 64]; 32],
 )
     requires { ⌜ Held s (now places) (now bytes) × (length (now roles) ≡ 16) × (j < 8) × Wide (now pairs) ⌝ }
-    ensures { λ _. ⌜ now (pairs .exit) ≡ pairedUp (now (pairs .entry)) j (heldAt s (now (places .entry)) (now (bytes .entry)) (roleOf s (now (roles .entry)) (j * 2))) (keptOf s (roleOf s (now (roles .entry)) (j * 2))) (heldAt s (now (places .entry)) (now (bytes .entry)) (roleOf s (now (roles .entry)) (j * 2 + 1))) (keptOf s (roleOf s (now (roles .entry)) (j * 2 + 1))) ⌝ }
+    ensures { λ _. ⌜ now (pairs .exit)
+        ≡ pairPut s (now (roles .entry)) (now (places .entry)) (now (bytes .entry)) j (now (pairs .entry)) ⌝ }
 {
     let lanes = s.lanes as usize;
     let a = position(s, roles, j * 2);
@@ -83,8 +84,9 @@ pub(crate) fn gather(
     bytes: &[u8],
     pairs: &mut [[u8; 64]; 32],
 )
-    requires { ⌜ Held s (now places) (now bytes) × (length (now roles) ≡ 16) × Clear (now pairs) ⌝ }
-    ensures { λ _. ⌜ Gathered s (now (roles .entry)) (now (places .entry)) (now (bytes .entry)) (now (pairs .exit)) ⌝ }
+    requires { ⌜ Held s (now places) (now bytes) × (length (now roles) ≡ 16) × Wide (now pairs) ⌝ }
+    ensures { λ _. ⌜ now (pairs .exit)
+        ≡ gatheredOf s (now (roles .entry)) (now (places .entry)) (now (bytes .entry)) (countOf s) (now (pairs .entry)) ⌝ }
 {
     let count = (s.sources() + 1) / 2;
     let mut j: usize = 0;

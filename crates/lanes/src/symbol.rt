@@ -41,7 +41,8 @@ pub(crate) fn write_sum(
     out: &mut [u8],
 )
     requires { ⌜ T (accepted s) × Paired (countOf s) (now pairs) × (i < nOf s) × (length (now out) ≡ s .lanes) ⌝ }
-    ensures { λ _. ⌜ now (out .exit) ≡ table (s .lanes) (λ v. getD (weightedOf (now (rows .entry)) i (now (pairs .entry)) (countOf s)) v 0) ⌝ }
+    ensures { λ _. ⌜ now (out .exit)
+        ≡ table (s .lanes) (λ v. getD (weightedOf (now (rows .entry)) i (now (pairs .entry)) (countOf s)) v 0) ⌝ }
 {
     let sum = weighted(rows, i, pairs, (s.sources() + 1) / 2);
     let lanes = s.lanes as usize;

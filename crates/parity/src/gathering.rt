@@ -22,7 +22,8 @@ fn next_row(row: usize, ring: usize) -> usize
 
 // Puts source symbols 2j and 2j + 1 of every lane, each from its row, into pair j. Past the last source symbol no byte is kept.
 fn put_pair(pairs: &mut [[u8; 64]; 32], rows: &[u8], s: Settings, row: usize, next: usize, j: usize)
-    requires { ⌜ T (accepted s) × (length (now rows) ≡ senderLen s) × (row < nOf s - 1) × (next < nOf s - 1) × (j * 2 < kOf s) × Wide (now pairs) ⌝ }
+    requires { ⌜ T (accepted s) × (length (now rows) ≡ senderLen s) × (row < nOf s - 1) × (next < nOf s - 1) × (j * 2 < kOf s)
+        × Wide (now pairs) ⌝ }
     ensures { λ _. ⌜ now (pairs .exit) ≡ pairPut s (now (rows .entry)) row next j (now (pairs .entry)) ⌝ }
 {
     let lanes = s.lanes as usize;

@@ -10,12 +10,10 @@ ghost use Prim.Native.Nat.{_-_, _≤_, _<_};
 ghost use lib.Dec.{T};
 ghost use lib.ListN.{length};
 ghost use Rattle.galois.specs.Table.{table};
-ghost use Rattle.vectors.specs.Pairs.{Wide, Paired};
 ghost use Rattle.code.specs.Settings.{accepted, kOf, nOf};
 ghost use Rattle.code.specs.Word.{symbol, systematicOf};
 ghost use Rattle.protocol.specs.Frame.{remembered};
 ghost use Rattle.protocol.specs.Lengths.{senderLen};
-ghost use Rattle.parity.specs.Gathering.{pairsOf};
 
 // Writes symbol p of every lane, for p at or past k: the sum of the k source symbols, each by its entry of the systematic form.
 pub fn write_parity(
@@ -25,14 +23,15 @@ pub fn write_parity(
     s: Settings,
     due: u32,
     p: usize,
-    pairs: &mut [[u8; 64]; 32],
 )
-    requires { ⌜ T (accepted s) × (now form ≡ systematicOf s) × (length (now rows) ≡ senderLen s) × (length (now out) ≡ s .lanes) × (kOf s ≤ p) × (p < nOf s) × Wide (now pairs) × Paired (pairsOf s) (now pairs) ⌝ }
-    ensures { λ _. ⌜ (now (out .exit) ≡ table (s .lanes) (λ v. symbol s (λ i. remembered s (now (rows .entry)) due (p - i) i v) p)) × Wide (now (pairs .exit)) × Paired (pairsOf s) (now (pairs .exit)) ⌝ }
+    requires { ⌜ T (accepted s) × (now form ≡ systematicOf s) × (length (now rows) ≡ senderLen s) × (length (now out) ≡ s .lanes)
+        × (kOf s ≤ p) × (p < nOf s) ⌝ }
+    ensures { λ _. ⌜ now (out .exit) ≡ table (s .lanes) (λ v. symbol s (λ i. remembered s (now (rows .entry)) due (p - i) i v) p) ⌝ }
 {
     let lanes = s.lanes as usize;
     let count = (s.sources() + 1) / 2;
-    gather(pairs, rows, s, due, p);
-    let sum = weighted(form, p, pairs, count);
+    let mut pairs = [[0u8; 64]; 32];
+    gather(&mut pairs, rows, s, due, p);
+    let sum = weighted(form, p, &pairs, count);
     write_at(out, 0, &sum[..lanes]);
 }

@@ -75,22 +75,11 @@ fn pattern(s: Settings, j: u8, x: &mut u64)
     let places = [0usize, 1, 2, 3, 4, 5, 6, 7, 8, 9, 10, 11, 12, 13, 14, 15];
     let mut roles = first_roles(s, &flags);
     let mut left = parities(s, &flags);
-    let mut rows = generator::systematic(s);
+    let matrix = generator::systematic(s);
     let reciprocals = galois::reciprocals();
-    reduction::eliminate(s, &reciprocals, &mut rows, &mut left, &mut roles);
-    let mut pairs = [[0u8; 64]; 32];
+    let rows = reduction::eliminate(s, &reciprocals, matrix, &mut left, &mut roles);
     let mut symbol = [0u8; 1];
-    let mark = lanes::answer(
-        s,
-        &rows,
-        &roles,
-        &left,
-        &places,
-        &bytes,
-        i,
-        &mut pairs,
-        &mut symbol,
-    );
+    let mark = lanes::answer(s, &rows, &roles, &left, &places, &bytes, i, &mut symbol);
     print_field(s.delay as u64);
     print_field(s.burst as u64);
     print_field(s.scattered as u64);

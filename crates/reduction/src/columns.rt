@@ -1,5 +1,5 @@
-// Elimination in place, over the known positions of a systematic form: the known sources are pivots from the start, then each
-// known parity position takes one more. It is the same for every lane.
+// Elimination over the known positions of a systematic form: the known sources are pivots from the start, then each known parity
+// position takes one more. It is the same for every lane.
 use code::Settings;
 use multiples::quarters;
 use multiples::row_by;
@@ -65,7 +65,9 @@ fn column_step(
     reciprocals: &[u8; 256],
 ) -> u8
     requires { ⌜ (p < 16) × (k ≤ 16) × (length (now roles) ≡ 16) × (now reciprocals ≡ table 256 reciprocal) ⌝ }
-    ensures { λ r. ⌜ (record { rows = now (rows .exit); roles = now (roles .exit) } ≡ columnStep k (eqb flag 1) p (record { rows = now (rows .entry); roles = now (roles .entry) })) × (r ≡ leftFlag k (eqb flag 1) p (record { rows = now (rows .entry); roles = now (roles .entry) }) flag) ⌝ }
+    ensures step { λ r. ⌜ record { rows = now (rows .exit); roles = now (roles .exit) }
+        ≡ columnStep k (eqb flag 1) p (record { rows = now (rows .entry); roles = now (roles .entry) }) ⌝ }
+    ensures left { λ r. ⌜ r ≡ leftFlag k (eqb flag 1) p (record { rows = now (rows .entry); roles = now (roles .entry) }) flag ⌝ }
 {
     if flag != 1 {
         return flag;
@@ -79,24 +81,29 @@ fn column_step(
     0
 }
 
-// Elimination over the parity positions whose flag is 1, from the roles that are lent; the flag of each that becomes a pivot is
-// cleared. For settings that are not accepted nothing is done.
+// Elimination over the parity positions whose flag is 1, from the roles that are lent, on a copy of the matrix, which is returned; the
+// flag of each position that becomes a pivot is cleared. For settings that are not accepted nothing is done.
 pub fn eliminate(
     s: Settings,
     reciprocals: &[u8; 256],
-    rows: &mut [[u8; 16]; 16],
+    matrix: [[u8; 16]; 16],
     flags: &mut [u8; 16],
     roles: &mut [u8; 16],
-)
+) -> [[u8; 16]; 16]
     requires { ⌜ (length (now roles) ≡ 16) × (now reciprocals ≡ table 256 reciprocal) ⌝ }
-    ensures { λ _. ⌜ (record { rows = now (rows .exit); roles = now (roles .exit) } ≡ reducedFrom s (record { rows = now (rows .entry); roles = now (roles .entry) }) (now (flags .entry))) × (now (flags .exit) ≡ leftFrom s (record { rows = now (rows .entry); roles = now (roles .entry) }) (now (flags .entry))) ⌝ }
+    ensures reduced { λ r. ⌜ record { rows = r; roles = now (roles .exit) }
+        ≡ reducedFrom s (record { rows = matrix; roles = now (roles .entry) }) (now (flags .entry)) ⌝ }
+    ensures left { λ _. ⌜ now (flags .exit)
+        ≡ leftFrom s (record { rows = matrix; roles = now (roles .entry) }) (now (flags .entry)) ⌝ }
 {
     if !s.accepted() {
-        return;
+        return matrix;
     }
+    let mut reduced = matrix;
     let mut p = s.sources();
     while p < s.symbols() {
-        flags[p] = column_step(rows, roles, flags[p], p, s.sources(), reciprocals);
+        flags[p] = column_step(&mut reduced, roles, flags[p], p, s.sources(), reciprocals);
         p += 1;
     }
+    reduced
 }

@@ -1,4 +1,4 @@
-// Elimination in place, over the known parity positions of a matrix.
+// Elimination over the known parity positions of a matrix.
 mod columns;
 
 pub use columns::eliminate;

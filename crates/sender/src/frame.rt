@@ -27,19 +27,10 @@ fn write_body(
 {
     let lanes = s.lanes as usize;
     write_at(frame, 14, message);
-    let mut pairs = [[0u8; 64]; 32];
     let mut p = s.sources();
     while p < s.symbols() {
         let start = 14 + p * lanes;
-        write_parity(
-            &mut frame[start..start + lanes],
-            form,
-            rows,
-            s,
-            due,
-            p,
-            &mut pairs,
-        );
+        write_parity(&mut frame[start..start + lanes], form, rows, s, due, p);
         p += 1;
     }
 }

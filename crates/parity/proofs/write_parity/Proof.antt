@@ -9,10 +9,11 @@ use denote.Ref.{now}
 use lib.ListN.{length, take, drop}
 use lib.Seq.{length-take-le, drop-length}
 use Rattle.galois.proofs.Cases.{is-true}
-use Rattle.vectors.specs.Pairs.{Wide, Paired, weightedOf}
+use Rattle.vectors.specs.Pairs.{Paired, weightedOf}
+use Rattle.vectors.proofs.PairLaws.{blankPairs, blank-wide, blank-paired}
 use Rattle.code.proofs.Shape.{Shape, shape}
 use Rattle.parity.specs.Gathering.{pairsOf, gatheredOf}
-use Rattle.parity.proofs.Gathered.{pairs-few, gathered-wide, gathered-paired, parity-symbols}
+use Rattle.parity.proofs.Gathered.{pairs-few, gathered-paired, parity-symbols}
 use Rattle.parity.proofs.write_parity.Statement.{statement}
 use Rattle.parity.proofs.write_parity.Tie as tie
 
@@ -36,22 +37,15 @@ module _ (c : tie.After-gather) where
 
   -- the table with the source symbols
   abbrev gathered : List (List ℕ)
-  gathered = let a = start counted .args in gatheredOf (a .s) (now (a .rows)) (a .due) (a .p) (pairsOf (a .s)) (now (a .pairs))
+  gathered = let a = start counted .args in gatheredOf (a .s) (now (a .rows)) (a .due) (a .p) (pairsOf (a .s)) blankPairs
 
-  -- it has as many vectors and lanes
-  wide : Wide (c .gather .last .0)
-  wide =
-      let a = start counted .args in
-      subst⁻¹ Wide (c .gather .ensures)
-      (gathered-wide (a .s) (now (a .rows)) (a .due) (a .p) (now (a .pairs)) (shaped counted) (start counted .pre .6) (pairsOf (a .s)) (count-few counted))
-
-  -- and is a table of pairs
+  -- it is a table of pairs
   paired : Paired (pairsOf (start counted .args .s)) (c .gather .last .0)
   paired =
       let a = start counted .args in
-      subst⁻¹ (λ (l : List (List ℕ)). Paired (pairsOf (a .s)) l) (c .gather .ensures)
-      (gathered-paired (a .s) (now (a .rows)) (a .due) (a .p) (now (a .pairs)) (shaped counted) (start counted .pre .6) (pairsOf (a .s)) (pairsOf (a .s))
-      (count-few counted) (start counted .pre .7))
+      subst⁻¹ (Paired (pairsOf (a .s))) (c .gather .ensures)
+      (gathered-paired (a .s) (now (a .rows)) (a .due) (a .p) blankPairs (shaped counted) blank-wide (pairsOf (a .s)) (pairsOf (a .s))
+      (count-few counted) (blank-paired (pairsOf (a .s)) (count-few counted)))
 
 weighted-requires : tie.Need-weighted-requires
 weighted-requires c κs =
@@ -92,18 +86,15 @@ returns c =
     let from = counted at-gather in
     let a = start from .args in
     let pre = start from .pre in
-    let h = shaped from in (
-      sent .write-at .ensures
-          ∙ overwritten (now (a .out)) (take (a .s .lanes) (at .weighted .result)) (lanes-long at ∙ sym (pre .3))
-          ∙ ap (take (a .s .lanes))
-          (at .weighted .ensures
-          ∙ ap₂ (λ (l : List (List ℕ)) (m : ℕ). weightedOf (now (a .form)) (a .p) l m) (at-gather .gather .ensures) (is-count from)
-          ∙ ap (λ (form : List (List ℕ)). weightedOf form (a .p) (gathered at-gather) (pairsOf (a .s))) (pre .1))
-          ∙ parity-symbols (a .s) (now (a .rows)) (a .due) (a .p) (now (a .pairs)) h (pre .6)
-          (λ q. from .before .before .shared-slice-known .given q .fits) (pre .4) (pre .5) (is-true _ (pre .0)),
-      wide at-gather,
-      paired at-gather,
-    )
+    let h = shaped from in
+    sent .write-at .ensures
+    ∙ overwritten (now (a .out)) (take (a .s .lanes) (at .weighted .result)) (lanes-long at ∙ sym (pre .3))
+    ∙ ap (take (a .s .lanes))
+    (at .weighted .ensures
+    ∙ ap₂ (λ (l : List (List ℕ)) (m : ℕ). weightedOf (now (a .form)) (a .p) l m) (at-gather .gather .ensures) (is-count from)
+    ∙ ap (λ (form : List (List ℕ)). weightedOf form (a .p) (gathered at-gather) (pairsOf (a .s))) (pre .1))
+    ∙ parity-symbols (a .s) (now (a .rows)) (a .due) (a .p) blankPairs h blank-wide
+    (λ q. from .before .before .shared-slice-known .given q .fits) (pre .4) (pre .5) (is-true _ (pre .0))
 
 pub write-parity-spec : {M : Type 1} → statement M
 write-parity-spec =
@@ -112,7 +103,7 @@ write-parity-spec =
     (λ c. search needs)
     (λ c κs. tt)
     (λ c. let h = shaped c in omega (arith, c .sources .ensures))
-    (λ c κs. let pre = c .before .before .before .before .before .pre in (pre .0, pre .2, pre .4, pre .5, pre .6))
+    (λ c κs. let pre = c .before .before .before .before .before .pre in (pre .0, pre .2, pre .4, pre .5, blank-wide))
     weighted-requires
     (λ c. lanes-few (c .before))
     (λ c. sym (lanes-long (c .before .before)))

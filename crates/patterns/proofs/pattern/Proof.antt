@@ -21,7 +21,6 @@ use Rattle.elimination.proofs.OwnColumns.{own-reduced}
 use Rattle.elimination.proofs.Reductions.{reduced-accepted, same-columns, systematic-reduced, reduced-roles}
 use Rattle.elimination.proofs.Terms.{both}
 use Rattle.lanes.specs.Lanes.{ParityOnly, Own}
-use Rattle.lanes.proofs.Gathering.{clear-start}
 use Rattle.patterns.proofs.pattern.Statement.{statement}
 use Rattle.patterns.proofs.pattern.Tie as tie
 
@@ -83,7 +82,7 @@ module _ (s : Settings) (passed : T (accepted s)) (flags : List ℕ) where
 
 -- back from elimination to where the flags were drawn
 abbrev drawn : tie.After-eliminate → tie.After-flags
-drawn c = c .before .before .before .before .before .before .before .before .before .before .before .before .before
+drawn c = c .before .before .before .before .before .before .before .before .before .before .before .before
 
 -- and from there to the entry
 abbrev begun : tie.After-flags → tie.Start
@@ -91,9 +90,9 @@ begun c = c .before .before .before .before .before
 
 -- the matrix and the roles are those of elimination over the flags
 reduced : (c : tie.After-eliminate)
-    → both (c .eliminate .last .1 .1 .0) (c .eliminate .last .1 .1 .1 .1 .0) ≡ reducedOf (begun (drawn c) .args .s) (drawn c .flags .result)
+    → both (c .eliminate .result) (c .eliminate .last .1 .1 .1 .1 .0) ≡ reducedOf (begun (drawn c) .args .s) (drawn c .flags .result)
 reduced c =
-    let at = c .before .before .before .before .before .before in
+    let at = c .before .before .before .before .before in
     let start = begun (drawn c) in
     c .eliminate .ensures .0
     ∙ parity-reduced (start .args .s) (start .pre .0) (drawn c .flags .result) _ _ _ (at .systematic .ensures)
@@ -101,7 +100,7 @@ reduced c =
 
 answer-requires : tie.Need-answer-requires
 answer-requires c κs =
-    let at-eliminate = c .before .before .before .before .before .before .before in
+    let at-eliminate = c .before .before .before .before .before .before in
     let at-flags = drawn at-eliminate in
     let start = begun at-flags in
     let s = start .args .s in
@@ -109,7 +108,7 @@ answer-requires c κs =
     let flags : List ℕ = at-flags .flags .result in
     let i : ℕ = at-flags .before .before .below .result in
     let source : i < kOf s = omega arith in
-    let arrived = at-eliminate .before .before .before .before .before .before .before .before .before .before .before .arrived in
+    let arrived = at-eliminate .before .before .before .before .before .before .before .before .before .before .arrived in
     let sixteen : length (arrived .result) ≡ 16 = search needs in (
       record {
         settings = start .pre .0;
@@ -118,10 +117,9 @@ answer-requires c κs =
       source,
       ap (λ (x : Reduced). length (x .roles)) (reduced at-eliminate) ∙ reduced-roles s (start .pre .0) flags,
       sym (start .pre .1),
-      clear-start,
       subst⁻¹ (λ (x : Reduced). Own s x i) (reduced at-eliminate) (own-reduced s i source (start .pre .0) flags),
       subst⁻¹ (ParityOnly s) (at-eliminate .eliminate .ensures .1)
-          (parity-only s (start .pre .0) flags _ _ (at-eliminate .before .before .before .before .before .before .before .parities .ensures)),
+          (parity-only s (start .pre .0) flags _ _ (at-eliminate .before .before .before .before .before .before .parities .ensures)),
     )
 
 pub pattern-spec : {M : Type 1} → statement M

@@ -12,8 +12,6 @@ use Rattle.galois.specs.Bounded.{any}
 use Rattle.code.specs.Settings.{kOf}
 use Rattle.code.proofs.Shape.{Shape, shape}
 use Rattle.galois.proofs.ByIndex.{is-table}
-use Rattle.lanes.specs.Lanes.{Clear}
-use Rattle.lanes.proofs.Gathering.{clear-start}
 use Rattle.protocol.specs.Lengths.{messageLen}
 use Rattle.protocol.specs.Verdict.{sharedBytes, bufferOf}
 use Rattle.decision.specs.Decision.{mark, symbolsMark, sharedByte}
@@ -24,19 +22,19 @@ use Rattle.decision.proofs.deciding.decided.Statement.{statement}
 use Rattle.decision.proofs.deciding.decided.Tie as tie
 
 abbrev Inv-loop : tie.InvT-loop
-Inv-loop s rows due t message₀ matrix reciprocals pairs₀ lanes worst₀ i₀ message pairs worst i =
+Inv-loop s rows due t message₀ matrix reciprocals lanes worst₀ i₀ message worst i =
     Shape s × (i ≤ kOf s) × (length message ≡ messageLen s) × (worst ≡ symbolsMark s rows due t i)
-    × (worst ≡ 0 → (q : ℕ) → q < i * s .lanes → getD message q 0 ≡ sharedByte s rows due t q) × Clear pairs
+    × (worst ≡ 0 → (q : ℕ) → q < i * s .lanes → getD message q 0 ≡ sharedByte s rows due t q)
 
 abbrev μ-loop : tie.MeasureT-loop
-μ-loop s rows due t message₀ matrix reciprocals pairs₀ lanes worst₀ i₀ message pairs worst i = kOf s - i
+μ-loop s rows due t message₀ matrix reciprocals lanes worst₀ i₀ message worst i = kOf s - i
 
 loop-holds : tie.Need-loop-holds Inv-loop μ-loop
 unfolding symbolsMark mark any
 loop-holds c =
     let start = c .before .before .before .before .before in
     let none = zero-mul (start .args .s .lanes) in
-    (shape (start .args .s) (start .pre .0 .settings), zero-le, start .pre .2, refl, (λ same q h. absurd (omega arith)), clear-start)
+    (shape (start .args .s) (start .pre .0 .settings), zero-le, start .pre .2, refl, λ same q h. absurd (omega arith))
 
 -- the part of symbol i ends within the message, which is short
 ends : (c : tie.Then1 Inv-loop μ-loop)
@@ -80,7 +78,7 @@ part-exact c =
 
 write-symbol-requires : tie.Need-write-symbol-requires Inv-loop μ-loop
 write-symbol-requires c κs =
-    let turn = c .before .before .before .before in
+    let turn = c .before .before in
     let at-loop = turn .before .before in
     let at-reciprocals = at-loop .before .before in
     let at-systematic = at-reciprocals .before in
@@ -89,7 +87,6 @@ write-symbol-requires c κs =
       start .pre .1,
       omega arith,
       at-systematic .systematic .ensures,
-      at-loop .loop .inv .5,
       part-exact turn,
       at-reciprocals .reciprocals .ensures,
     )
@@ -97,16 +94,16 @@ write-symbol-requires c κs =
 loop-again : tie.Need-loop-again Inv-loop μ-loop
 loop-again c =
     let wrote = c .before .before .before in
-    let turn = wrote .before .before .before .before .before in
+    let turn = wrote .before .before .before in
     let at-loop = turn .before .before in
     let at = at-loop .loop in
     let a = at-loop .before .before .before .before .before .before .args in
     let L : ℕ = a .s .lanes in
     let first : ℕ = at .i * L in
     let rest : List ℕ = drop (first + L - first) (drop first (at .message)) in
-    let part : List ℕ = wrote .write-symbol .last .1 .1 .1 .1 .1 .1 .1 .1 .0 in
-    let told = wrote .write-symbol .ensures .0 in
-    let kept = wrote .write-symbol .kept .1 .1 .1 .1 .1 .1 .1 .1 .0 in
+    let part : List ℕ = wrote .write-symbol .last .1 .1 .1 .1 .1 .1 .1 .0 in
+    let told = wrote .write-symbol .ensures in
+    let kept = wrote .write-symbol .kept .1 .1 .1 .1 .1 .1 .1 .0 in
     let exact = kept ∙ part-exact turn in
     let grown : (at .i + 1) * L ≡ first + L = rw (add-one (at .i)) (suc-mul (at .i) L) in (
       at .inv .0,
@@ -119,7 +116,6 @@ loop-again c =
           L exact (at .inv .4 (both .0))
           (λ v lane. told .shared (both .1) v lane ∙ byte-said (a .s) (now (a .rows)) (a .due) (a .t) (at .i) v lane)
           q (omega arith),
-      wrote .write-symbol .ensures .1,
     )
 
 -- after the loop the mark is that of all symbols
@@ -177,10 +173,10 @@ decided-spec =
     loop-holds
     (λ c κs. tt)
     (λ c. omega (arith, few c))
-    (λ c. omega (arith, few (c .before .before .before)))
+    (λ c. omega (arith, few (c .before)))
     (λ c. le-add-right _ _)
     (λ c. le-add-right _ _)
-    (λ c. ends (c .before .before .before))
+    (λ c. ends (c .before))
     write-symbol-requires
     (λ c κs. tt)
     (λ c. omega arith)

@@ -37,7 +37,7 @@ locate-requires c κs =
 
 -- back from elimination to where the symbols were located
 abbrev located : tie.After-eliminate → tie.After-locate
-located c = c .before .before .before .before .before
+located c = c .before .before .before
 
 -- and from there to the entry
 abbrev begun : tie.After-locate → tie.Start
@@ -49,13 +49,13 @@ read c = let a = c .args in flagsOf (a .s) (now (a .rows)) (a .due + a .i) (a .t
 
 eliminate-requires : tie.Need-eliminate-requires
 eliminate-requires c κs =
-    let at-locate = c .before .before .before .before in
-    (ap length (at-locate .locate .ensures .2) ∙ first-sixteen _ _, begun at-locate .pre .6)
+    let at-locate = c .before .before in
+    (ap length (at-locate .locate .ensures .2) ∙ first-sixteen _ _, begun at-locate .pre .5)
 
 -- the matrix and the roles are those of elimination over the flags
 reduced : (c : tie.After-eliminate)
     → let start = begun (located c) in
-    both (c .eliminate .last .1 .1 .0) (c .eliminate .last .1 .1 .1 .1 .0) ≡ eliminated (start .args .s) (knownIn (start .args .s) (read start))
+    both (c .eliminate .result) (c .eliminate .last .1 .1 .1 .1 .0) ≡ eliminated (start .args .s) (knownIn (start .args .s) (read start))
 reduced c =
     let start = begun (located c) in
     let is = located c .locate .ensures in
@@ -64,7 +64,7 @@ reduced c =
 
 reduced-by : (c : tie.After-eliminate)
     → let start = begun (located c) in
-    both (c .eliminate .last .1 .1 .0) (c .eliminate .last .1 .1 .1 .1 .0) ≡ reducedOf (start .args .s) (read start)
+    both (c .eliminate .result) (c .eliminate .last .1 .1 .1 .1 .0) ≡ reducedOf (start .args .s) (read start)
 reduced-by c =
     let start = begun (located c) in
     reduced c ∙ eliminated-reduced (start .args .s) (read start) (is-true _ (start .pre .0 .settings))
@@ -86,7 +86,7 @@ left-by c =
 
 answer-requires : tie.Need-answer-requires
 answer-requires c κs =
-    let at-eliminate = c .before .before .before .before .before .before in
+    let at-eliminate = c .before .before .before .before .before in
     let at-locate = located at-eliminate in
     let start = begun at-locate in
     let a = start .args in
@@ -99,7 +99,6 @@ answer-requires c κs =
       },
       start .pre .2,
       ap (λ (x : Reduced). length (x .roles)) (reduced-by at-eliminate) ∙ reduced-roles (a .s) passed (read start),
-      start .pre .5,
       start .pre .4,
       subst⁻¹ (λ (x : Reduced). Own (a .s) x (a .i)) (reduced-by at-eliminate)
           (own-reduced (a .s) (a .i) (start .pre .2) passed (read start)),
@@ -110,7 +109,7 @@ answer-requires c κs =
 returns : tie.Need-returns
 returns c =
     let at-answer = c .before .before in
-    let at-eliminate = at-answer .before .before .before .before .before .before .before in
+    let at-eliminate = at-answer .before .before .before .before .before .before in
     let at-locate = located at-eliminate in
     let known = at-locate .before .before .before .before .before in
     let start = known .before in
@@ -123,18 +122,16 @@ returns c =
     let places : List ℕ = placesOf (a .s) (a .t) (a .i) in
     let x : Reduced = eliminated (a .s) (knownIn (a .s) flags) in
     let h = shaped start in
-    let below = known .shared-slice-known .given in (
-      told (a .s) rows (a .due) (a .t) (a .i) x left places (h .lanes-positive)
-          (λ v.
-          left-said (a .s) passed flags left (laneByte (a .s) places rows v) (lane-below (a .s) places rows (λ q. below q .fits) v)
-          (left-by at-eliminate) (a .i)
-          ∙ lane-said (a .s) passed rows (a .due) (a .t) (a .i) (λ q. below q .fits) (start .pre .2) v)
-          (at-answer .answer .result) out _
-          (at-answer .answer .ensures .0
-          ∙ ap (λ (x : Reduced). lanesSaid (a .s) x left (at-locate .locate .last .1 .1 .1 .1 .1 .0) rows (a .i) out) (reduced at-eliminate)
-          ∙ ap (λ (l : List ℕ). lanesSaid (a .s) x left l rows (a .i) out) (at-locate .locate .ensures .0)),
-      at-answer .answer .ensures .1,
-    )
+    let below = known .shared-slice-known .given in
+    told (a .s) rows (a .due) (a .t) (a .i) x left places (h .lanes-positive)
+    (λ v.
+    left-said (a .s) passed flags left (laneByte (a .s) places rows v) (lane-below (a .s) places rows (λ q. below q .fits) v)
+    (left-by at-eliminate) (a .i)
+    ∙ lane-said (a .s) passed rows (a .due) (a .t) (a .i) (λ q. below q .fits) (start .pre .2) v)
+    (at-answer .answer .result) out _
+    (at-answer .answer .ensures
+    ∙ ap (λ (x : Reduced). lanesSaid (a .s) x left (at-locate .locate .last .1 .1 .1 .1 .1 .0) rows (a .i) out) (reduced at-eliminate)
+    ∙ ap (λ (l : List ℕ). lanesSaid (a .s) x left l rows (a .i) out) (at-locate .locate .ensures .0))
 
 pub write-symbol-spec : {M : Type 1} → statement M
 write-symbol-spec =
@@ -144,5 +141,5 @@ write-symbol-spec =
     locate-requires
     eliminate-requires
     answer-requires
-    (λ c. c .before .before .answer .kept .1 .1 .1 .1 .1 .1 .1 .1 .0)
+    (λ c. c .before .before .answer .kept .1 .1 .1 .1 .1 .1 .1 .0)
     returns)

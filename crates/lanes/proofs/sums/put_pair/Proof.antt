@@ -76,7 +76,7 @@ returns c =
     let from = at .before .before .before .before .before .before in
     let s = from .args .s in
     c .pair-up .ensures
-    ∙ put-equal (now (from .args .pairs)) (from .args .j) (first-part at)
+    ∙ put-equal s (now (from .args .roles)) (places at) (bytes at) (from .args .j) (now (from .args .pairs)) _ _ _ _ (first-part at)
     (c .before .before .before .kept .ensures ∙ ap (keptOf s) (at .before .before .before .position .ensures)) (second-part at)
     (c .before .kept2 .ensures ∙ ap (keptOf s) (at .before .before .position2 .ensures))
 

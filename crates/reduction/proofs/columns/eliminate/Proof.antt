@@ -20,18 +20,18 @@ use Rattle.reduction.proofs.columns.eliminate.Statement.{statement}
 use Rattle.reduction.proofs.columns.eliminate.Tie as tie
 
 abbrev Inv-loop : tie.InvT-loop
-Inv-loop s reciprocals rows₀ flags₀ roles₀ p₀ rows flags roles p =
+Inv-loop s reciprocals flags₀ roles₀ reduced₀ p₀ flags roles reduced p =
     Shape s × (kOf s ≤ p) × (p ≤ nOf s)
-    × (both rows roles ≡ columns s (knownIn s flags₀) (both rows₀ roles₀) (p - kOf s))
-    × (flags ≡ leftAfter s (both rows₀ roles₀) flags₀ (p - kOf s))
+    × (both reduced roles ≡ columns s (knownIn s flags₀) (both reduced₀ roles₀) (p - kOf s))
+    × (flags ≡ leftAfter s (both reduced₀ roles₀) flags₀ (p - kOf s))
 
 abbrev μ-loop : tie.MeasureT-loop
-μ-loop s reciprocals rows₀ flags₀ roles₀ p₀ rows flags roles p = nOf s - p
+μ-loop s reciprocals flags₀ roles₀ reduced₀ p₀ flags roles reduced p = nOf s - p
 
 returns : tie.Need-returns Inv-loop μ-loop
 returns c =
     let a = c .before .before .args in
-    let x = both (now (a .rows)) (now (a .roles)) in
+    let x = both (a .matrix) (now (a .roles)) in
     let refused : accepted (a .s) ≡ false =
     sym (c .before .accepted .ensures) ∙ not-true (c .before .accepted .result) (c .if1 .taken) in
     (reduced-refused (a .s) x (now (a .flags)) refused, left-refused (a .s) x (now (a .flags)) refused)
@@ -57,7 +57,7 @@ column-step-requires c κs =
       omega arith,
       omega arith,
       ap (λ (x : Reduced). length (x .roles)) (at .inv .3)
-          ∙ sixteen-roles (a .s) (at .inv .0) (knownIn (a .s) (now (a .flags))) (both (now (a .rows)) (now (a .roles))) (start .pre .0) (at .p - kOf (a .s)),
+          ∙ sixteen-roles (a .s) (at .inv .0) (knownIn (a .s) (now (a .flags))) (both (a .matrix) (now (a .roles))) (start .pre .0) (at .p - kOf (a .s)),
       start .pre .1,
     )
 
@@ -67,7 +67,7 @@ loop-again c =
     let at = at-loop .loop in
     let a = at-loop .before .before .before .before .args in
     let flags : List ℕ = now (a .flags) in
-    let x : Reduced = both (now (a .rows)) (now (a .roles)) in
+    let x : Reduced = both (a .matrix) (now (a .roles)) in
     let p : ℕ = at .p in
     let flag : ℕ = getD (at .flags) p 0 in
     let same : flag ≡ getD flags p 0 =
@@ -90,7 +90,7 @@ returns-2 c =
     let at = at-loop .loop in
     let at-accepted = at-loop .before .before in
     let a = at-accepted .before .before .args in
-    let x : Reduced = both (now (a .rows)) (now (a .roles)) in
+    let x : Reduced = both (a .matrix) (now (a .roles)) in
     let all : at .p - kOf (a .s) ≡ a .s .burst = omega (arith, at .inv .0 .symbols) in (
       at .inv .3 ∙ ap (columns (a .s) (knownIn (a .s) (now (a .flags))) x) all
           ∙ reduced-accepted (a .s) x (now (a .flags)) (passed at-accepted),

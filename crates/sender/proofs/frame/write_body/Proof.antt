@@ -8,26 +8,21 @@ use native.Mathlib.Omega.{arith}
 use Prim.Native.Nat.{ℕ, _+_, _-_, _*_, _<_, _≤_}
 use denote.Ref.{now}
 use lib.ListN.{length, take}
-use Rattle.vectors.specs.Pairs.{Wide, Paired}
-use Rattle.vectors.proofs.PairLaws.{blank-wide, blank-paired}
 use Rattle.code.specs.Settings.{kOf, nOf}
 use Rattle.code.proofs.Shape.{Shape, shape}
 use Rattle.protocol.specs.Frame.{bodyOf}
 use Rattle.protocol.specs.Lengths.{frameLen}
-use Rattle.parity.specs.Gathering.{pairsOf}
-use Rattle.parity.proofs.Gathered.{pairs-few}
 use Rattle.sender.proofs.Places.{body-few, message-fits, symbol-ends}
 use Rattle.sender.proofs.Bodies.{Written, written-message, written-more, written-all}
 use Rattle.sender.proofs.frame.write_body.Statement.{statement}
 use Rattle.sender.proofs.frame.write_body.Tie as tie
 
 abbrev Inv-loop : tie.InvT-loop
-Inv-loop frame₀ form rows message s due lanes pairs₀ p₀ frame pairs p =
+Inv-loop frame₀ form rows message s due lanes p₀ frame p =
     (kOf s ≤ p) × (p ≤ nOf s) × (length frame ≡ frameLen s) × Written s rows message due (take 14 frame₀) frame p
-    × Wide pairs × Paired (pairsOf s) pairs
 
 abbrev μ-loop : tie.MeasureT-loop
-μ-loop frame₀ form rows message s due lanes pairs₀ p₀ frame pairs p = nOf s - p
+μ-loop frame₀ form rows message s due lanes p₀ frame p = nOf s - p
 
 abbrev start : tie.After-write-at Inv-loop μ-loop → tie.Start Inv-loop μ-loop
 start c = c .before .before .before .before .before .before
@@ -65,8 +60,6 @@ loop-holds c =
       omega (arith, c .sources .ensures),
       from .write-at .kept .0 ∙ start from .pre .4,
       rw (c .sources .ensures) (message-sent from .1),
-      blank-wide,
-      blank-paired (pairsOf (a .s)) (pairs-few (a .s) h),
     )
 
 -- the place of symbol p
@@ -86,19 +79,19 @@ within c =
 
 write-parity-requires : tie.Need-write-parity-requires Inv-loop μ-loop
 write-parity-requires c κs =
-    let taken = c .before .before in
+    let taken = c .before in
     let at = taken .before .before .loop in
     let from = sent (taken .before .before .before) in
     let a = start from .args in
     let pre = start from .pre in
     let place : ℕ = 14 + at .p * a .s .lanes in
     let long = mid-len place (place + a .s .lanes) (at .frame) (within taken .1) in
-    (pre .0, pre .1, pre .2, omega (arith, long), at .inv .0, within taken .0, at .inv .4, at .inv .5)
+    (pre .0, pre .1, pre .2, omega (arith, long), at .inv .0, within taken .0)
 
 loop-again : tie.Need-loop-again Inv-loop μ-loop
 loop-again c =
     let called = c .before .before in
-    let taken = called .before .before .before in
+    let taken = called .before .before in
     let at = taken .before .before .loop in
     let from = sent (taken .before .before .before) in
     let a = start from .args in (
@@ -106,9 +99,7 @@ loop-again c =
       omega (arith, within taken),
       c .before .frame2 .given .1 ∙ at .inv .2,
       written-more (a .s) (now (a .rows)) (now (a .message)) (a .due) (shaped from) (take 14 (from .write-at .last .0)) (at .frame)
-          (called .write-parity .last .0) (at .p) (at .inv .0) (within taken .0) (at .inv .2) (at .inv .3) (called .write-parity .ensures .0),
-      called .write-parity .ensures .1,
-      called .write-parity .ensures .2,
+          (called .write-parity .last .0) (at .p) (at .inv .0) (within taken .0) (at .inv .2) (at .inv .3) (called .write-parity .ensures),
     )
 
 returns : tie.Need-returns Inv-loop μ-loop
@@ -139,8 +130,8 @@ write-body-spec =
     (λ c. le-add-right _ _)
     (λ c. within c .1)
     write-parity-requires
-    (λ c. let h = shaped (sent (c .before .before .before .before .before .before .before .before)) in omega arith)
-    (λ c. omega (arith, within (c .before .before .before .before .before)))
+    (λ c. let h = shaped (sent (c .before .before .before .before .before .before .before)) in omega arith)
+    (λ c. omega (arith, within (c .before .before .before .before)))
     loop-again
     (λ c. c .before .before .loop .inv .2 ∙ sym (start (sent (c .before .before .before)) .pre .4))
     returns)
