@@ -1,11 +1,8 @@
 // What the static library's callers keep as bytes, the causes that these give, and the numbers of its replies.
-mod checks;
 mod numbers;
 mod outcomes;
 mod state;
 
-pub use checks::opening_cause;
-pub use checks::state_cause;
 pub use numbers::number_of;
 pub use outcomes::save_answer;
 pub use outcomes::save_reply;
@@ -15,3 +12,4 @@ pub use state::STATE_LEN;
 pub use state::receiver_in;
 pub use state::sender_in;
 pub use state::settings_at;
+pub use state::state_cause;

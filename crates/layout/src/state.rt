@@ -1,13 +1,17 @@
-// The state that a caller keeps between calls, read and written.
+// The state that a caller keeps between calls: read, refused, and written.
 use code::Settings;
+use protocol::Answer;
+use protocol::Cause;
 use protocol::Receiver;
 use protocol::Sender;
 use protocol::write_at;
 ghost use mathlib.Core.Path.{_≡_};
 ghost use Prim.Native.Nat.{_+_, _*_, _≤_};
 ghost use lib.ListN.{length};
-ghost use Rattle.protocol.specs.Causes.{agree};
-ghost use Rattle.layout.specs.State.{markOf, stateBytes, stateLen, saved, settingsAt, slotAt, senderIn, receiverIn};
+ghost use Rattle.protocol.specs.Causes.{nothing, agree};
+ghost use Rattle.causes.specs.Findings.{foundIn};
+ghost use Rattle.layout.specs.State.{markOf, stateBytes, stateLen, saved};
+ghost use Rattle.layout.specs.State.{settingsAt, slotAt, senderIn, receiverIn, stateCause};
 
 // The length of a state.
 pub const STATE_LEN: usize = 13;
@@ -82,7 +86,7 @@ fn mark_of(end: u8) -> [u8; 4]
 }
 
 // Whether the bytes begin with the mark of this end.
-pub(crate) fn is_marked(end: u8, bytes: &[u8]) -> bool
+fn is_marked(end: u8, bytes: &[u8]) -> bool
     requires { ⌜ 4 ≤ length (now bytes) ⌝ }
     ensures { λ r. ⌜ r ≡ agree 4 (now (bytes .entry)) (markOf end) ⌝ }
 {
@@ -95,6 +99,19 @@ pub(crate) fn is_marked(end: u8, bytes: &[u8]) -> bool
         i += 1;
     }
     true
+}
+
+// The first cause that a state of this end gives, before those of the call on what it keeps.
+pub fn state_cause(end: u8, state: &[u8]) -> Answer
+    ensures { λ r. ⌜ foundIn r ≡ stateCause end (now (state .entry)) nothing ⌝ }
+{
+    if state.len() != STATE_LEN {
+        return Answer::Refused(Cause::BadLength);
+    }
+    if !is_marked(end, state) {
+        return Answer::Refused(Cause::BadSettings);
+    }
+    Answer::Accepted
 }
 
 // A state, byte by byte.

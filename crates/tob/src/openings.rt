@@ -1,13 +1,31 @@
 // The openings of both ends.
+use code::Settings;
 use layout::RECEIVER_END;
 use layout::SENDER_END;
+use layout::STATE_LEN;
 use layout::number_of;
-use layout::opening_cause;
 use layout::save_answer;
 use layout::settings_at;
 use protocol::Answer;
+use protocol::Cause;
 ghost use mathlib.Core.Path.{_≡_};
+ghost use Rattle.protocol.specs.Causes.{openCause};
+ghost use Rattle.causes.specs.Findings.{foundIn};
+ghost use Rattle.layout.specs.State.{stateLen};
 ghost use Rattle.tob.specs.Calls.{openSenderBytes, openReceiverBytes};
+
+// The first cause that the settings and the lent state give, before those that the rows give.
+fn opening_cause(s: Settings, state: &[u8]) -> Answer
+    ensures { λ r. ⌜ foundIn r ≡ openCause s stateLen (now (state .entry)) ⌝ }
+{
+    if !s.accepted() {
+        return Answer::Refused(Cause::BadSettings);
+    }
+    if state.len() != STATE_LEN {
+        return Answer::Refused(Cause::BadLength);
+    }
+    Answer::Accepted
+}
 
 // Opens a sender: writes its state and zeroes its rows.
 #[no_mangle]

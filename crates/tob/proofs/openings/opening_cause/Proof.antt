@@ -3,8 +3,8 @@ use borrow.Author.Needs.{needs}
 use borrow.Author.Tests.{eq-eqb, ne-eqb, not-true, not-false}
 use mathlib.Core.Path.{_≡_, sym, _∙_}
 use Rattle.protocol.specs.Causes.{openCause}
-use Rattle.layout.proofs.checks.opening_cause.Statement.{statement}
-use Rattle.layout.proofs.checks.opening_cause.Tie as tie
+use Rattle.tob.proofs.openings.opening_cause.Statement.{statement}
+use Rattle.tob.proofs.openings.opening_cause.Tie as tie
 
 returns : tie.Need-returns
 unfolding openCause

@@ -3,8 +3,8 @@ use borrow.Author.Needs.{needs}
 use borrow.Author.Tests.{eq-eqb, ne-eqb, not-true, not-false}
 use mathlib.Core.Path.{_≡_, sym, _∙_}
 use Rattle.layout.specs.State.{stateCause}
-use Rattle.layout.proofs.checks.state_cause.Statement.{statement}
-use Rattle.layout.proofs.checks.state_cause.Tie as tie
+use Rattle.layout.proofs.state.state_cause.Statement.{statement}
+use Rattle.layout.proofs.state.state_cause.Tie as tie
 
 returns : tie.Need-returns
 unfolding stateCause
