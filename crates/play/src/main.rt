@@ -1,4 +1,4 @@
-// Plays the recording on standard input: reads it to its end, and prints it step by step.
+// Plays the recording on standard input: reads it to its end, and prints it buffer by buffer.
 mod input;
 
 use code::Settings;
@@ -6,7 +6,6 @@ use libc::STDERR_FILENO;
 use libc::STDIN_FILENO;
 use libc::STDOUT_FILENO;
 use player::Start;
-use player::Turn;
 use protocol::message_len;
 use protocol::receiver_len;
 ghost use mathlib.Core.Path.{_≡_};
@@ -22,32 +21,22 @@ fn put(bytes: &[u8]) -> bool {
     done
 }
 
-// The steps of a recording that passes. What they print is gathered, and written out when the longest line may not fit any more.
+// A recording that passes: the buffer is filled and written out, to the last filling. It has room for the longest line, so each filling
+// leaves fewer steps.
 fn play_steps(s: Settings, recording: &[u8], rows: &mut [u8], message: &mut [u8], out: &mut [u8])
-    requires { ⌜ (18 + 2 * length (now message) ≤ length (now out)) × (length (now out) ≤ 65536) ⌝ }
+    requires { ⌜ 18 + 2 * length (now message) ≤ length (now out) ⌝ }
 {
     let mut p = player::begin(s, rows, message);
-    let mut at: usize = 0;
     loop {
-        let stepped = player::step(p, recording, rows, message, &mut out[at..]);
-        let turn = stepped.turn;
-        match turn {
-            Turn::NoRoom => {
-                if !put(&out[0..at]) {
-                    return;
-                }
-                at = 0;
-            }
-            Turn::More => {
-                p = stepped.player;
-                at += stepped.len;
-            }
-            Turn::Over => {
-                at += stepped.len;
-                put(&out[0..at]);
-                return;
-            }
+        let filled = player::fill(p, recording, rows, message, out);
+        let end = filled.len;
+        if !put(&out[0..end]) {
+            return;
         }
+        if filled.over {
+            return;
+        }
+        p = filled.player;
     }
 }
 

@@ -1,8 +1,12 @@
--- The laws that the functions' proofs cite, and the theorem that the steps print the transcript.
+-- The laws that the functions' proofs cite, and the theorem that the fillings hand out the transcript.
 pub mod StartLaws
 pub mod StopLaws
 pub mod Acts
-pub mod Played
-pub mod StepsLeft
 pub mod StepOutcomes
+pub mod StepsLeft
+pub mod StepList
+pub mod Kept
+pub mod Gathering
+pub mod FillLaws
 pub mod LoopLaws
+pub mod Played

@@ -1,99 +1,43 @@
--- What a loop over the steps needs: that it ends, that the lines fit, and that a recording which is played fits its buffers.
-use mathlib.Core.Path.{_≡_, refl, sym, ap, _∙_, subst}
+-- What a loop over fillings needs: that what is printed fits, that it ends, and that a recording which is played fits its buffers.
+use mathlib.Core.Path.{_≡_, refl, ap, subst}
 use mathlib.Core.Bool.{Bool, true, false}
-use mathlib.Core.List.{List, _++_}
+use mathlib.Core.List.{List}
 use native.Mathlib.Nat.{mul-le-mul}
 use native.Mathlib.Omega.{arith}
-use Prim.Native.Nat.{ℕ, _+_, _*_, _≤_, _<_}
-use lib.Dec.{T, eqb, ltb}
-use lib.ListN.{length, drop, length-append, length-drop}
-use borrow.Author.Tests.{ltb-true}
+use Prim.Native.Nat.{ℕ, _≤_, _<_}
+use lib.Dec.{T, eqb}
+use lib.ListN.{length}
 use Rattle.code.specs.declared.settings.Settings.{Settings}
-use Rattle.code.specs.Settings.{accepted, delayOf, kOf, nOf}
-use Rattle.code.proofs.Shape.{Shape, shape}
-use Rattle.protocol.specs.declared.Receiver.{Receiver}
+use Rattle.code.specs.Settings.{accepted}
+use Rattle.code.proofs.Shape.{shape}
 use Rattle.protocol.specs.Lengths.{messageLen, bodyLen, rowLen, rowCount, receiverLen}
 use Rattle.protocol.specs.Causes.{Found, nothing, cause}
-use Rattle.protocol.specs.Calls.{Reported}
-use Rattle.lines.specs.Text.{written}
 use Rattle.lines.specs.Lent.{longest}
 use Rattle.player.specs.declared.Player.{Player}
 use Rattle.player.specs.declared.Start.{Start}
 use Rattle.player.specs.declared.Start.the-variants.{Empty, Stop, Play}
-use Rattle.player.specs.declared.Turn.{Turn}
-use Rattle.player.specs.declared.Turn.the-variants.{NoRoom, More, Over}
-use Rattle.player.specs.Transcript.{settingsIn, recordingCause, refuses}
-use Rattle.player.specs.Steps.{startOf, Act, endAct, stopAct, turnOf, reportAct, actOf, onLine, stepOf}
-use Rattle.player.proofs.Acts.{every-act}
-use Rattle.player.proofs.Played.{passed}
-use Rattle.player.proofs.StepsLeft.{stepsLeft, fewer}
+use Rattle.player.specs.Transcript.{settingsIn, recordingCause}
+use Rattle.player.specs.Steps.{startOf}
+use Rattle.player.specs.Filling.{gathered, printedOn, filledOf}
+use Rattle.player.proofs.FillLaws.{print-fits}
+use Rattle.player.proofs.Gathering.{gathered-fewer}
+use Rattle.player.proofs.StepList.{passed}
+use Rattle.player.proofs.StepsLeft.{stepsLeft}
 
--- ---- a step
+-- ---- a filling
 
--- an act is over, or there is more
-Decided : Act → Type 0
-Decided a = a .turn ≡ NoRoom → ⊥
+-- a buffer that is as long as before has room for what was printed
+pub filled-fits : (p : Player) (recording rows message out : List ℕ) → length (filledOf p recording rows message out .out) ≡ length out
+    → filledOf p recording rows message out .len ≤ length out
+unfolding filledOf
+filled-fits p recording rows message out = print-fits out (gathered recording (length out) p rows message)
 
-report-decided : (x : Receiver) (offset : ℕ) (r : Reported) → Decided (reportAct x offset r)
-unfolding Decided reportAct turnOf
-report-decided x offset r e = go (refuses (r .reply)) refl
-  where
-    go : (b : Bool) → refuses (r .reply) ≡ b → ⊥
-    go true is =
-        let no : Over ≡ NoRoom = rw (is, reportAct) at e in
-        let z : _≡_ {A = ℕ} 0 1 = cc in omega arith
-    go false is =
-        let no : More ≡ NoRoom = rw (is, reportAct) at e in
-        let z : _≡_ {A = ℕ} 0 1 = cc in omega arith
-
-act-decided : (p : Player) (recording rows message : List ℕ) → Decided (actOf p recording rows message)
-unfolding Decided endAct stopAct
-act-decided p recording rows message =
-    every-act p recording rows message Decided
-    (λ e. let z : _≡_ {A = ℕ} 0 1 = cc in omega arith)
-    (λ c e. let z : _≡_ {A = ℕ} 0 1 = cc in omega arith)
-    (λ passes above. report-decided (p .receiver) (p .offset) _)
-    (λ fits. report-decided (p .receiver) _ _)
-
-module _ (p : Player) (recording rows message line : List ℕ) where
-  -- where there was no room, the line is too short
-  pub step-no-room : stepOf p recording rows message line .turn ≡ NoRoom → length line < longest message
-  unfolding stepOf onLine Decided
-  step-no-room e = go (ltb (length line) (longest message)) refl
-    where
-      go : (b : Bool) → ltb (length line) (longest message) ≡ b → length line < longest message
-      go true is = ltb-true (length line) (longest message) is
-      go false is =
-          let no : actOf p recording rows message .turn ≡ NoRoom = rw (is, stepOf) at e in
-          absurd (act-decided p recording rows message no)
-
-  -- where there is more to play, fewer steps are left
-  pub step-fewer : stepOf p recording rows message line .turn ≡ More
-      → stepsLeft recording (stepOf p recording rows message line .player) < stepsLeft recording p
-  unfolding stepOf onLine
-  step-fewer e = go (ltb (length line) (longest message)) refl
-    where
-      go : (b : Bool) → ltb (length line) (longest message) ≡ b
-          → stepsLeft recording (stepOf p recording rows message line .player) < stepsLeft recording p
-      go true is =
-          let no : NoRoom ≡ More = rw (is, stepOf) at e in
-          let z : _≡_ {A = ℕ} 0 1 = cc in absurd (omega arith)
-      go false is =
-          let more : actOf p recording rows message .turn ≡ More = rw (is, stepOf) at e in
-          rw (is, stepOf) (fewer p recording rows message more)
-
-  -- a line that is as long as before has room for what was written
-  pub step-fits : length (stepOf p recording rows message line .line) ≡ length line
-      → stepOf p recording rows message line .len ≤ length line
-  unfolding stepOf onLine written
-  step-fits e = go (ltb (length line) (longest message)) refl
-    where
-      go : (b : Bool) → ltb (length line) (longest message) ≡ b → stepOf p recording rows message line .len ≤ length line
-      go true is = rw (is, stepOf) (omega arith)
-      go false is =
-          let text : List ℕ = actOf p recording rows message .text in
-          let same : length (text ++ drop (length text) line) ≡ length line = rw (is, stepOf) at e in
-          rw (is, stepOf) (omega (arith, length-append text (drop (length text) line)))
+-- with room for the longest line, a filling that leaves more to play leaves fewer steps
+pub filled-fewer : (p : Player) (recording rows message out : List ℕ) → longest message ≤ length out
+    → filledOf p recording rows message out .over ≡ false
+    → stepsLeft recording (filledOf p recording rows message out .player) < stepsLeft recording p
+unfolding filledOf printedOn
+filled-fewer p recording rows message out = gathered-fewer recording (length out) p rows message
 
 -- ---- a recording that is played
 

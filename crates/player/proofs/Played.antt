@@ -1,182 +1,98 @@
--- Every recording: the lines of the steps, one after another, are its transcript, and the steps end.
-use mathlib.Core.Path.{_≡_, refl, subst}
-use mathlib.Core.Bool.{Bool, true, false, not, _||_}
-use mathlib.Core.List.{List, _∷_, _++_, append-nil}
-use Prim.Native.Nat.{ℕ, zero, suc, _+_, _-_, _*_, _/_, _%_, _≤_, _<_}
-use native.Mathlib.Nat.{div-add-mod', suc-mul}
-use native.Mathlib.Omega.{arith}
-use lib.Dec.{T, eqb, ltb}
-use lib.ListN.{length, take, drop, replicate, length-replicate}
-use lib.Seq.{drop-drop}
-use borrow.Author.Tests.{eqb-true, not-false}
+-- Every recording: what its fillings hand out, one after another, is its transcript, and they end.
+use mathlib.Core.Path.{_≡_, refl}
+use mathlib.Core.Bool.{Bool, true, false}
+use mathlib.Core.List.{List, _++_, append-assoc}
+use Prim.Native.Nat.{ℕ, suc, _-_, _≤_}
+use lib.Dec.{eqb, ltb}
+use lib.ListN.{length, drop, length-replicate}
+use lib.Seq.{take-at}
+use borrow.Author.Tests.{ltb-true, ltb-false}
 use Rattle.code.specs.declared.settings.Settings.{Settings}
-use Rattle.code.specs.Settings.{accepted}
-use Rattle.protocol.specs.declared.Receiver.{Receiver}
-use Rattle.protocol.specs.declared.Cause.the-variants.{BadSettings, BadLength}
-use Rattle.protocol.specs.declared.Answer.the-variants as answer
-use Rattle.protocol.specs.Lengths.{messageLen, frameLen, rowCount, receiverLen}
-use Rattle.protocol.specs.Rows.{joined}
-use Rattle.protocol.specs.Causes.{Found, nothing, cause, check}
-use Rattle.protocol.specs.Calls.{OpenedReceiver, openReceiverOf, receivedZeros, Reported, lossOf, heardOf}
-use Rattle.protocol.proofs.CauseTables.{check-nothing, passes, open-nothing}
+use Rattle.protocol.specs.Causes.{Found, nothing, cause}
+use Rattle.lines.specs.Text.{written}
+use Rattle.lines.specs.Lent.{longest}
 use Rattle.player.specs.declared.Player.{Player}
 use Rattle.player.specs.declared.Start.the-variants.{Play}
-use Rattle.player.specs.declared.Turn.the-variants.{More, Over}
-use Rattle.player.specs.Transcript.{settingsIn, recordingCause, slotIn, frameStop, pieces, Rest, refuses, andThen, skipped, played, playedFrom, transcript}
-use Rattle.player.specs.Steps.{startOf, beginOf, Act, endAct, stopAct, reportAct, actOf}
-use Rattle.player.specs.Printed.{Steps, Printed, Fitting, Playing}
-use Rattle.player.proofs.Acts.{loss-onward, heard-onward, passing-stop, passing-onward, playerAt, act-end, act-stop, act-loss, act-heard}
+use Rattle.player.specs.Transcript.{settingsIn, recordingCause, playedFrom, transcript}
+use Rattle.player.specs.Steps.{startOf, beginOf, Act}
+use Rattle.player.specs.Filling.{noAct, after, gathered, printedOn, filledOf}
+use Rattle.player.specs.Printed.{handedOut, Fillings, Printed, Fitting, Playing}
+use Rattle.player.proofs.Kept.{act-length}
+use Rattle.player.proofs.Gathering.{gathered-none, gathered-last, gathered-more}
+use Rattle.player.proofs.StepList.{Steps, passed, from-start}
 
--- ---- the steps, by what the first one comes to
+-- what is handed out is the text that was printed
+handed-text : (out : List ℕ) (a : Act) → handedOut (printedOn out a) ≡ a .text
+unfolding printedOn written
+handed-text out a = take-at (a .text) (drop (length (a .text)) out) (length (a .text)) refl
 
-module _ (recording : List ℕ) (p : Player) (rows message : List ℕ) where
-  -- a first step that is the last
-  last-by : (a : Act) → actOf p recording rows message ≡ a → a .turn ≡ Over → Steps recording p rows message (a .text)
-  last-by a e = subst (λ (b : Act). b .turn ≡ Over → Steps recording p rows message (b .text)) e (Steps.last p rows message)
+-- a text by the steps that fill the buffer before buffer i: it is theirs, and they are the last; or the fillings from i on hand out the rest
+data HandedOn (recording : List ℕ) (buffer : ℕ → List ℕ) (i : ℕ) (a : Act) : List ℕ → Type 0 where
+  done : a .over ≡ true → HandedOn recording buffer i a (a .text)
+  more : (rest : List ℕ) → a .over ≡ false → Fillings recording buffer i (a .player) (a .rows) (a .message) rest
+      → HandedOn recording buffer i a (a .text ++ rest)
 
-  -- a first step that others follow
-  next-by : (a : Act) (rest : List ℕ) → actOf p recording rows message ≡ a → a .turn ≡ More
-      → Steps recording (a .player) (a .rows) (a .message) rest → Steps recording p rows message (a .text ++ rest)
-  next-by a rest e =
-      subst
-      (λ (b : Act).
-      b .turn ≡ More → Steps recording (b .player) (b .rows) (b .message) rest → Steps recording p rows message (b .text ++ rest))
-      e (Steps.next p rows message rest)
+module _ (recording : List ℕ) (buffer : ℕ → List ℕ) where
+  -- a text printed before
+  after-text : (i : ℕ) (before : List ℕ) (a : Act) (text : List ℕ) → HandedOn recording buffer i a text
+      → HandedOn recording buffer i (after before a) (before ++ text)
+  unfolding after
+  after-text i before a text (HandedOn.done e) = HandedOn.done e
+  after-text i before a text (HandedOn.more rest e fillings) = rw (← append-assoc) (HandedOn.more rest e fillings)
 
-  -- a first step that reports, followed by what the rest prints, unless the report is refused
-  report-by : (offset : ℕ) (r : Reported) (k : Rest)
-      → actOf p recording rows message ≡ reportAct (p .receiver) offset r
-      → (refuses (r .reply) ≡ false
-      → Steps recording (playerAt (r .receiver) offset) (r .rows) (r .message) (k (r .receiver) (r .rows) (r .message)))
-      → Steps recording p rows message (andThen (p .receiver) r k)
-  unfolding andThen reportAct
-  report-by offset r k e after = go (refuses (r .reply)) refl
-    where
-      go : (b : Bool) → refuses (r .reply) ≡ b → Steps recording p rows message (andThen (p .receiver) r k)
-      go true is = rw (is, append-nil) (last-by (reportAct (p .receiver) offset r) e (rw (is, reportAct)))
-      go false is =
-          rw is
-          (next-by (reportAct (p .receiver) offset r) (k (r .receiver) (r .rows) (r .message)) e (rw (is, reportAct)) (after is))
+  -- the fillings from i on, by the steps that fill buffer i
+  fillings-by : (i : ℕ) (p : Player) (rows message text : List ℕ)
+      → HandedOn recording buffer (suc i) (gathered recording (length (buffer i)) p rows message) text
+      → Fillings recording buffer i p rows message text
+  unfolding filledOf printedOn
+  fillings-by i p rows message text (HandedOn.done e) =
+      let a = gathered recording (length (buffer i)) p rows message in
+      rw (← handed-text (buffer i) a) (Fillings.last i p rows message (printedOn (buffer i) a) refl e)
+  fillings-by i p rows message text (HandedOn.more rest e fillings) =
+      let a = gathered recording (length (buffer i)) p rows message in
+      rw (← handed-text (buffer i) a) (Fillings.next i p rows message rest (printedOn (buffer i) a) refl e fillings)
 
--- ---- the frames
-
--- the receiver of these settings at a slot
-abbrev due : Settings → ℕ → Receiver
-due s slot = record { settings = s; due = slot }
-
-module _ (recording : List ℕ) (s : Settings) (offset : ℕ) (fits : offset + frameLen s ≤ length recording) (frames : List (List ℕ)) where
-  -- the frame at the offset
-  abbrev here : List ℕ
-  here = take (frameLen s) (drop offset recording)
-
-  -- its report, and what the frames after it print
-  abbrev finish : Rest
-  finish = λ y rows message. andThen y (heardOf y rows here message) (played frames)
-
-  module _ (after : (slot : ℕ) (rows message : List ℕ)
-      → Steps recording (playerAt (due s slot) (offset + frameLen s)) rows message (played frames (due s slot) rows message)) where
-    -- the report of a frame at the slot due, and what comes after it
-    heard-steps : (slot : ℕ) (rows message : List ℕ) → frameStop (due s slot) here ≡ nothing → slotIn here ≤ slot
-        → Steps recording (playerAt (due s slot) offset) rows message (finish (due s slot) rows message)
-    heard-steps slot rows message e reached =
-        let r : Reported = heardOf (due s slot) rows here message in
-        report-by recording (playerAt (due s slot) offset) rows message (offset + frameLen s) r (played frames)
-        (act-heard recording (playerAt (due s slot) offset) fits rows message e reached)
-        (λ free. rw (heard-onward (due s slot) rows here message free) (after (slot + 1) (r .rows) (r .message)))
-
-    -- the skipped slots, then the frame
-    skip-steps : (m slot : ℕ) (rows message : List ℕ) → frameStop (due s slot) here ≡ nothing → slotIn here - slot ≡ m
-        → Steps recording (playerAt (due s slot) offset) rows message (skipped m finish (due s slot) rows message)
-    unfolding skipped
-    skip-steps zero slot rows message e left = heard-steps slot rows message e (omega arith)
-    skip-steps (suc m) slot rows message e left =
-        let above : slot < slotIn here = omega arith in
-        let r : Reported = lossOf (due s slot) rows message in
-        let onto : frameStop (due s (slot + 1)) here ≡ nothing =
-        passing-stop (due s (slot + 1)) here (passing-onward (due s slot) here e above) in
-        report-by recording (playerAt (due s slot) offset) rows message offset r (skipped m finish)
-        (act-loss recording (playerAt (due s slot) offset) fits rows message e above)
-        (λ free.
-        rw (loss-onward (due s slot) rows message free) (skip-steps m (slot + 1) (r .rows) (r .message) onto (omega arith)))
-
-    -- a frame and those after it: it stops the player, or its skipped slots are lost and it is reported
-    frame-steps : (slot : ℕ) (rows message : List ℕ)
-        → Steps recording (playerAt (due s slot) offset) rows message (played (here ∷ frames) (due s slot) rows message)
-    unfolding played stopAct
-    frame-steps slot rows message = go (frameStop (due s slot) here) refl
+  module _ (p : Player) (rows message text : List ℕ) where
+    -- a buffer that has no room left for the longest line is handed out, and the next one has
+    any-room : ((i room : ℕ) → longest message ≤ room → HandedOn recording buffer i (gathered recording room p rows message) text)
+        → ((i : ℕ) → longest message ≤ length (buffer i))
+        → (i room : ℕ) → HandedOn recording buffer i (gathered recording room p rows message) text
+    unfolding noAct
+    any-room with-room roomy i room = go (ltb room (longest message)) refl
       where
-        go : (f : Found) → frameStop (due s slot) here ≡ f
-            → Steps recording (playerAt (due s slot) offset) rows message (played (here ∷ frames) (due s slot) rows message)
-        go nothing e = rw (e, played) (skip-steps (slotIn here - slot) slot rows message e refl)
-        go (cause c) e =
-            rw (e, played)
-            (last-by recording (playerAt (due s slot) offset) rows message (stopAct (playerAt (due s slot) offset) rows message c)
-            (act-stop recording (playerAt (due s slot) offset) fits rows message c e) refl)
+        go : (b : Bool) → ltb room (longest message) ≡ b → HandedOn recording buffer i (gathered recording room p rows message) text
+        go true full =
+            rw (gathered-none recording room p rows message (ltb-true room (longest message) full))
+            (HandedOn.more text refl (fillings-by i p rows message text (with-room (suc i) (length (buffer i)) (roomy i))))
+        go false free = with-room i room (ltb-false room (longest message) free)
 
--- the frames left, one after another
-pieces-steps : (recording : List ℕ) (s : Settings) (m offset slot : ℕ) (rows message : List ℕ)
-    → offset + m * frameLen s ≡ length recording
-    → Steps recording (playerAt (due s slot) offset) rows message
-    (played (pieces m (frameLen s) (drop offset recording)) (due s slot) rows message)
-unfolding pieces played endAct
-pieces-steps recording s zero offset slot rows message left =
-    last-by recording (playerAt (due s slot) offset) rows message (endAct (playerAt (due s slot) offset) rows message)
-    (act-end recording (playerAt (due s slot) offset) rows message (omega arith)) refl
-pieces-steps recording s (suc m) offset slot rows message left =
-    let more : suc m * frameLen s ≡ m * frameLen s + frameLen s = suc-mul m (frameLen s) in
-    rw (drop-drop (frameLen s) offset recording)
-    (frame-steps recording s offset (omega arith) (pieces m (frameLen s) (drop (offset + frameLen s) recording))
-    (λ slot' rows' message'. pieces-steps recording s m (offset + frameLen s) slot' rows' message' (omega arith)) slot rows message)
+  -- steps hand on what they print, where there is room for the longest line
+  steps-hand : {p : Player} {rows message text : List ℕ} → Steps recording p rows message text
+      → ((i : ℕ) → longest message ≤ length (buffer i))
+      → (i room : ℕ) → longest message ≤ room → HandedOn recording buffer i (gathered recording room p rows message) text
+  unfolding longest
+  steps-hand (Steps.last p rows message a is e) roomy i room fits =
+      rw (gathered-last recording room p rows message fits a is e) (HandedOn.done e)
+  steps-hand (Steps.next p rows message rest a is e steps) roomy i room fits =
+      let still : (j : ℕ) → longest (a .message) ≤ length (buffer j)
+      = λ j. rw (← is, act-length p recording rows message) (roomy j) in
+      rw (gathered-more recording room p rows message fits a is e)
+      (after-text i (a .text) (gathered recording (room - length (a .text)) (a .player) (a .rows) (a .message)) rest
+      (any-room (a .player) (a .rows) (a .message) rest (λ j left free. steps-hand steps still j left free) still i (room - length (a .text))))
 
--- ---- the opening
-
--- the opened receiver
-abbrev openedFor : Settings → OpenedReceiver
-openedFor s =
-    record { answer = answer.Accepted; receiver = due s 0; rows = joined (rowCount s) (λ r. receivedZeros s) }
-
--- accepted settings and rows of the exact length open it
-opens : (s : Settings) (rows : List ℕ) → T (accepted s) → length rows ≡ receiverLen s → openReceiverOf s rows ≡ openedFor s
-unfolding openReceiverOf
-opens s rows ok exact = rw (open-nothing s (receiverLen s) rows ok exact, openReceiverOf)
-
--- a recording that passes has accepted settings, and is whole frames
-pub passed : (recording : List ℕ) → recordingCause recording ≡ nothing
-    → T (accepted (settingsIn recording)) × (length recording % frameLen (settingsIn recording) ≡ 0)
-unfolding recordingCause
-passed recording e =
-    let s : Settings = settingsIn recording in
-    let whole : Found = check (not (eqb (length recording % frameLen s) 0)) BadLength nothing in
-    let a =
-    check-nothing (ltb (length recording) 14 || ltb 65536 (length recording)) BadLength
-    (check (not (accepted s)) BadSettings whole) e in
-    let b = check-nothing (not (accepted s)) BadSettings whole (a .1) in
-    let c = check-nothing (not (eqb (length recording % frameLen s) 0)) BadLength nothing (b .1) in
-    (passes (accepted s) (b .0), eqb-true (length recording % frameLen s) 0 (not-false (eqb (length recording % frameLen s) 0) (c .0)))
-
--- the steps of a recording that passes, from its start
-from-start : (recording rows message : List ℕ) (s : Settings) → T (accepted s) → length recording % frameLen s ≡ 0
-    → length rows ≡ receiverLen s → length message ≡ messageLen s
-    → Steps recording (beginOf s rows message .player) (beginOf s rows message .rows) (beginOf s rows message .message) (playedFrom s recording)
-unfolding beginOf playedFrom
-from-start recording rows message s ok whole rows-exact message-exact =
-    let frames : ℕ = length recording / frameLen s in
-    rw (
-      opens s rows ok rows-exact,
-      opens s (replicate (receiverLen s) 0) ok (length-replicate (receiverLen s) 0),
-      message-exact,
-    )
-    (pieces-steps recording s frames 0 0 (openedFor s .rows) (replicate (messageLen s) 0)
-    (omega (arith, div-add-mod' (length recording) (frameLen s))))
+  -- so the fillings hand out what the steps print
+  all-fillings : (p : Player) (rows message text : List ℕ) → Steps recording p rows message text
+      → ((i : ℕ) → longest message ≤ length (buffer i)) → Fillings recording buffer 0 p rows message text
+  all-fillings p rows message text steps roomy =
+      fillings-by 0 p rows message text (steps-hand steps roomy 1 (length (buffer 0)) (roomy 0))
 
 -- ---- the theorem
 
-module _ (recording rows message : List ℕ)
-    (fit : (s : Settings) → startOf recording ≡ Play s → (length rows ≡ receiverLen s) × (length message ≡ messageLen s)) where
+module _ (recording rows message : List ℕ) (buffer : ℕ → List ℕ) (fit : Fitting recording rows message buffer) where
   -- a recording, by its tests before any line
   printed-by : (b : Bool) → eqb (length recording) 0 ≡ b → (f : Found) → recordingCause recording ≡ f
-      → Printed recording rows message (transcript recording)
-  unfolding startOf transcript
+      → Printed recording rows message buffer (transcript recording)
+  unfolding startOf transcript Fitting beginOf longest
   printed-by true none f found = rw (none, transcript) (Printed.nothing (rw (none, startOf)))
   printed-by false some (cause c) found = rw (some, found, transcript) (Printed.refused c (rw (some, found, startOf)))
   printed-by false some nothing found =
@@ -184,12 +100,15 @@ module _ (recording rows message : List ℕ)
       let starts : startOf recording ≡ Play s = rw (some, found, startOf) in
       let pass = passed recording found in
       let exact = fit s starts in
+      let b = beginOf s rows message in
       rw (some, found, transcript)
-      (Printed.played s (playedFrom s recording) starts
-      (from-start recording rows message s (pass .0) (pass .1) (exact .0) (exact .1)))
+      (Printed.played s b (playedFrom s recording) starts refl
+      (all-fillings recording buffer (b .player) (b .rows) (b .message) (playedFrom s recording)
+      (from-start recording rows message s (pass .0) (pass .1) (exact .0) (exact .1))
+      (λ i. rw (length-replicate {A = ℕ} (length message) 0) (exact .2 i))))
 
--- every recording: the lines of the steps, one after another, are its transcript, and the steps end
+-- every recording: what its fillings hand out, one after another, is its transcript, and they end
 pub played-through : Playing
-unfolding Playing Fitting
-played-through recording rows message fit =
-    printed-by recording rows message fit (eqb (length recording) 0) refl (recordingCause recording) refl
+unfolding Playing
+played-through recording rows message buffer fit =
+    printed-by recording rows message buffer fit (eqb (length recording) 0) refl (recordingCause recording) refl

@@ -1,9 +1,9 @@
 -- What each way out of a step gives back, by the tests before it.
-use mathlib.Core.Path.{_≡_, refl, sym, ap, _∙_}
-use mathlib.Core.Bool.{true, false}
+use mathlib.Core.Path.{_≡_, refl, ap}
+use mathlib.Core.Bool.{Bool, true}
 use mathlib.Core.List.{List}
 use native.Mathlib.Omega.{arith}
-use Prim.Native.Nat.{ℕ, _+_, _-_, _≤_, _<_}
+use Prim.Native.Nat.{ℕ, _-_, _≤_, _<_}
 use lib.ListN.{length, take, drop}
 use borrow.Author.Tests.{lt-ltb, le-ltb}
 use Rattle.protocol.specs.declared.Receiver.{Receiver}
@@ -17,24 +17,10 @@ use Rattle.protocol.specs.Calls.{Reported, messageDue, lossOf, heardOf}
 use Rattle.recording.specs.declared.Found.the-variants.{Frame, Part, End}
 use Rattle.recording.specs.Found.{foundAt}
 use Rattle.lines.specs.Text.{stopLine, lineOf, written}
-use Rattle.lines.specs.Lent.{longest}
 use Rattle.player.specs.declared.Player.{Player}
-use Rattle.player.specs.declared.Turn.{Turn}
-use Rattle.player.specs.declared.Turn.the-variants.{NoRoom, Over}
-use Rattle.player.specs.Transcript.{slotIn, frameStop}
-use Rattle.player.specs.Steps.{
-  answerOf,
-  Act,
-  endAct,
-  stopAct,
-  turnOf,
-  reportAct,
-  frameAct,
-  actOf,
-  Stepped,
-  onLine,
-  stepOf,
-}
+use Rattle.player.specs.Transcript.{slotIn, frameStop, refuses}
+use Rattle.player.specs.Steps.{answerOf, Act, endAct, stopAct, reportAct, frameAct, actOf}
+use Rattle.player.specs.Filling.{printedOn}
 
 -- ---- an answer tells what a table found
 
@@ -75,33 +61,33 @@ module _ (p : Player) (frame : List ℕ) (end : ℕ) (rows message : List ℕ) w
 -- ---- on a line
 
 -- the parts that a step gives back are those of its act
-module _ (line : List ℕ) (q : Player) (now : List ℕ) (len : ℕ) (t : Turn) where
-  pub on-line : (a : Act) → q ≡ a .player → t ≡ a .turn → len ≡ length (a .text) → now ≡ written (a .text) line
-      → record { player = q; rows = a .rows; message = a .message; line = now; len = len; turn = t } ≡ onLine line a
-  unfolding onLine
-  on-line a same turned long wrote = rw (same, turned, long, wrote) refl
+module _ (line : List ℕ) (q : Player) (now : List ℕ) (len : ℕ) (over : Bool) where
+  pub on-line : (a : Act) → q ≡ a .player → len ≡ length (a .text) → over ≡ a .over → now ≡ written (a .text) line
+      → record { player = q; rows = a .rows; message = a .message; out = now; len = len; over = over } ≡ printedOn line a
+  unfolding printedOn
+  on-line a same long ended wrote = rw (same, long, ended, wrote) refl
 
   -- a refusal
   pub stop-line : (p : Player) (rows message : List ℕ) (c : Cause)
-      → q ≡ p → t ≡ Over → len ≡ length (stopLine c) → now ≡ written (stopLine c) line
-      → record { player = q; rows = rows; message = message; line = now; len = len; turn = t } ≡ onLine line (stopAct p rows message c)
+      → q ≡ p → len ≡ length (stopLine c) → over ≡ true → now ≡ written (stopLine c) line
+      → record { player = q; rows = rows; message = message; out = now; len = len; over = over } ≡ printedOn line (stopAct p rows message c)
   unfolding stopAct
   stop-line p rows message c = on-line (stopAct p rows message c)
 
   -- a report
   pub report-line : (x : Receiver) (offset : ℕ) (r : Reported)
       → q ≡ record { receiver = r .receiver; offset = offset }
-      → t ≡ turnOf (r .reply)
       → len ≡ length (lineOf (messageDue (x .settings) (x .due)) (r .reply) (r .message))
+      → over ≡ refuses (r .reply)
       → now ≡ written (lineOf (messageDue (x .settings) (x .due)) (r .reply) (r .message)) line
-      → record { player = q; rows = r .rows; message = r .message; line = now; len = len; turn = t } ≡ onLine line (reportAct x offset r)
-  unfolding reportAct turnOf
+      → record { player = q; rows = r .rows; message = r .message; out = now; len = len; over = over } ≡ printedOn line (reportAct x offset r)
+  unfolding reportAct
   report-line x offset r = on-line (reportAct x offset r)
 
 -- the end
 pub end-line : (line : List ℕ) (p : Player) (rows message : List ℕ)
-    → record { player = p; rows = rows; message = message; line = line; len = 0; turn = Over } ≡ onLine line (endAct p rows message)
-unfolding onLine endAct written
+    → record { player = p; rows = rows; message = message; out = line; len = 0; over = true } ≡ printedOn line (endAct p rows message)
+unfolding printedOn endAct written
 end-line line p rows message = refl
 
 -- ---- by what stands at the offset
@@ -121,13 +107,3 @@ module _ (p : Player) (recording rows message : List ℕ) where
       → frameAct p (take (end - start) (drop start recording)) end rows message ≡ actOf p recording rows message
   unfolding actOf
   stands start end e = rw (e, actOf)
-
-  module _ (line : List ℕ) where
-    pub no-room : length line < longest message
-        → record { player = p; rows = rows; message = message; line = line; len = 0; turn = NoRoom } ≡ stepOf p recording rows message line
-    unfolding stepOf
-    no-room h = rw (lt-ltb (length line) (longest message) h, stepOf)
-
-    pub room : longest message ≤ length line → onLine line (actOf p recording rows message) ≡ stepOf p recording rows message line
-    unfolding stepOf
-    room h = rw (le-ltb (length line) (longest message) h, stepOf)

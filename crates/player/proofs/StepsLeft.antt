@@ -1,19 +1,18 @@
 -- A measure of the steps left, which falls at every step that leaves more to play.
-use mathlib.Core.Path.{_≡_, refl}
-use mathlib.Core.Bool.{Bool, true, false}
+use mathlib.Core.Path.{_≡_}
+use mathlib.Core.Bool.{false}
 use mathlib.Core.List.{List}
 use Prim.Native.Nat.{ℕ, _+_, _-_, _*_, _≤_, _<_, min}
 use native.Mathlib.Omega.{arith}
 use lib.ListN.{length}
-use Rattle.protocol.specs.declared.Receiver.{Receiver}
 use Rattle.protocol.specs.declared.Cause.{Cause}
 use Rattle.protocol.specs.Lengths.{frameLen}
 use Rattle.protocol.specs.Causes.{nothing}
 use Rattle.protocol.specs.Calls.{Reported, lossOf, heardOf}
 use Rattle.player.specs.declared.Player.{Player}
-use Rattle.player.specs.declared.Turn.the-variants.{More, Over}
-use Rattle.player.specs.Transcript.{slotIn, frameStop, refuses}
+use Rattle.player.specs.Transcript.{slotIn, frameStop}
 use Rattle.player.specs.Steps.{Act, endAct, stopAct, reportAct, actOf}
+use Rattle.player.specs.Filling.{enoughSteps}
 use Rattle.player.proofs.Acts.{frame-some, loss-onward, stop-passing, frameAt, every-act}
 
 -- the bytes left, and the slots to skip before the frame at the offset; a byte counts for more than the slots of any frame that passes
@@ -22,21 +21,15 @@ stepsLeft recording p =
     (length recording - p .offset) * 4097
     + min 4096 (slotIn (frameAt recording p) - p .receiver .due)
 
--- a report that leaves more to play wasn't refused
-report-free : (x : Receiver) (offset : ℕ) (r : Reported) → reportAct x offset r .turn ≡ More → refuses (r .reply) ≡ false
-unfolding reportAct
-report-free x offset r more = go (refuses (r .reply)) refl
-  where
-    go : (b : Bool) → refuses (r .reply) ≡ b → refuses (r .reply) ≡ false
-    go true is =
-        let over : Over ≡ More = rw (is, reportAct) at more in
-        let z : _≡_ {A = ℕ} 0 1 = cc in absurd (omega arith)
-    go false is = is
+-- no player has as many left as the definition of a filling goes through
+pub few-left : (recording : List ℕ) (p : Player) → stepsLeft recording p < enoughSteps recording
+unfolding stepsLeft enoughSteps
+few-left recording p = omega arith
 
 module _ (p : Player) (recording : List ℕ) where
   -- fewer steps are left after an act that leaves more to play
   abbrev Falls : Act → Type 0
-  Falls a = a .turn ≡ More → stepsLeft recording (a .player) < stepsLeft recording p
+  Falls a = a .over ≡ false → stepsLeft recording (a .player) < stepsLeft recording p
 
   -- the end leaves nothing to play
   end-falls : (rows message : List ℕ) → Falls (endAct p rows message)
@@ -54,9 +47,8 @@ module _ (p : Player) (recording : List ℕ) where
       → Falls (reportAct (p .receiver) (p .offset) (lossOf (p .receiver) rows message))
   unfolding reportAct stepsLeft
   loss-falls rows message passes above more =
-      let free = report-free (p .receiver) (p .offset) (lossOf (p .receiver) rows message) more in
       let pass = stop-passing (p .receiver) (frameAt recording p) passes in
-      rw (loss-onward (p .receiver) rows message free) (omega arith)
+      rw (loss-onward (p .receiver) rows message more) (omega arith)
 
   -- after a report that moves the offset past a frame fewer bytes are left
   heard-falls : p .offset + frameLen (p .receiver .settings) ≤ length recording → (r : Reported)
@@ -65,7 +57,7 @@ module _ (p : Player) (recording : List ℕ) where
   heard-falls fits r more = let some = frame-some (p .receiver .settings) in omega arith
 
 -- every step that leaves more to play leaves fewer steps
-pub fewer : (p : Player) (recording rows message : List ℕ) → actOf p recording rows message .turn ≡ More
+pub fewer : (p : Player) (recording rows message : List ℕ) → actOf p recording rows message .over ≡ false
     → stepsLeft recording (actOf p recording rows message .player) < stepsLeft recording p
 fewer p recording rows message =
     every-act p recording rows message (Falls p recording) (end-falls p recording rows message) (stop-falls p recording rows message)

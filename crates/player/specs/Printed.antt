@@ -1,39 +1,50 @@
--- What is printed when a recording is played by its start and its steps, one after another, to the last.
+-- What is handed out when a recording is played by its start and its fillings, one after another, to the last.
 use mathlib.Core.Path.{_≡_}
+use mathlib.Core.Bool.{true, false}
 use mathlib.Core.List.{List, [], _++_}
-use Prim.Native.Nat.{ℕ}
-use lib.ListN.{length}
+use Prim.Native.Nat.{ℕ, suc, _≤_}
+use lib.ListN.{length, take}
 use Rattle.code.specs.declared.settings.Settings.{Settings}
 use Rattle.protocol.specs.declared.Cause.{Cause}
 use Rattle.protocol.specs.Lengths.{messageLen, receiverLen}
 use Rattle.lines.specs.Text.{stopLine}
+use Rattle.lines.specs.Lent.{longest}
 use Rattle.player.specs.declared.Player.{Player}
 use Rattle.player.specs.declared.Start.the-variants.{Empty, Stop, Play}
-use Rattle.player.specs.declared.Turn.the-variants.{More, Over}
 use Rattle.player.specs.Transcript.{transcript}
-use Rattle.player.specs.Steps.{startOf, beginOf, actOf}
+use Rattle.player.specs.Steps.{startOf, Begun, beginOf}
+use Rattle.player.specs.Filling.{Outcome, filledOf}
 
--- the steps from here on end, and this is what they print
-pub data Steps (recording : List ℕ) : Player → List ℕ → List ℕ → List ℕ → Type 0 where
-  last : (p : Player) (rows message : List ℕ) → actOf p recording rows message .turn ≡ Over
-      → Steps recording p rows message (actOf p recording rows message .text)
-  next : (p : Player) (rows message rest : List ℕ) → actOf p recording rows message .turn ≡ More
-      → Steps recording (actOf p recording rows message .player) (actOf p recording rows message .rows) (actOf p recording rows message .message) rest
-      → Steps recording p rows message (actOf p recording rows message .text ++ rest)
+-- what a filling hands out: the first bytes of its buffer
+abbrev pub handedOut : Outcome → List ℕ
+handedOut o = take (o .len) (o .out)
 
--- what a recording prints from its start on, with these rows and this message buffer lent
-pub data Printed (recording rows message : List ℕ) : List ℕ → Type 0 where
-  nothing : startOf recording ≡ Empty → Printed recording rows message []
-  refused : (c : Cause) → startOf recording ≡ Stop c → Printed recording rows message (stopLine c)
-  played : (s : Settings) (text : List ℕ) → startOf recording ≡ Play s
-      → Steps recording (beginOf s rows message .player) (beginOf s rows message .rows) (beginOf s rows message .message) text
-      → Printed recording rows message text
+-- the fillings from filling i on end, and this is what they hand out; each is lent a buffer of its own, of any bytes
+pub data Fillings (recording : List ℕ) (buffer : ℕ → List ℕ) : ℕ → Player → List ℕ → List ℕ → List ℕ → Type 0 where
+  last : (i : ℕ) (p : Player) (rows message : List ℕ) (o : Outcome)
+      → filledOf p recording rows message (buffer i) ≡ o → o .over ≡ true
+      → Fillings recording buffer i p rows message (handedOut o)
+  next : (i : ℕ) (p : Player) (rows message rest : List ℕ) (o : Outcome)
+      → filledOf p recording rows message (buffer i) ≡ o → o .over ≡ false
+      → Fillings recording buffer (suc i) (o .player) (o .rows) (o .message) rest
+      → Fillings recording buffer i p rows message (handedOut o ++ rest)
 
--- the rows and the message buffer have the lengths that the recording's settings ask
-unfoldable pub Fitting : List ℕ → List ℕ → List ℕ → Type 0
-Fitting recording rows message =
-    (s : Settings) → startOf recording ≡ Play s → (length rows ≡ receiverLen s) × (length message ≡ messageLen s)
+-- what a recording prints from its start on, with these rows, this message buffer and these buffers lent
+pub data Printed (recording rows message : List ℕ) (buffer : ℕ → List ℕ) : List ℕ → Type 0 where
+  nothing : startOf recording ≡ Empty → Printed recording rows message buffer []
+  refused : (c : Cause) → startOf recording ≡ Stop c → Printed recording rows message buffer (stopLine c)
+  played : (s : Settings) (b : Begun) (text : List ℕ) → startOf recording ≡ Play s → beginOf s rows message ≡ b
+      → Fillings recording buffer 0 (b .player) (b .rows) (b .message) text
+      → Printed recording rows message buffer text
 
--- every recording: the lines of the steps, one after another, are its transcript, and the steps end
+-- the rows and the message buffer have the lengths that the recording's settings ask, and each buffer has room for the longest line
+unfoldable pub Fitting : List ℕ → List ℕ → List ℕ → (ℕ → List ℕ) → Type 0
+Fitting recording rows message buffer =
+    (s : Settings) → startOf recording ≡ Play s
+    → (length rows ≡ receiverLen s) × (length message ≡ messageLen s) × ((i : ℕ) → longest message ≤ length (buffer i))
+
+-- every recording: what its fillings hand out, one after another, is its transcript, and they end
 unfoldable pub Playing : Type 0
-Playing = (recording rows message : List ℕ) → Fitting recording rows message → Printed recording rows message (transcript recording)
+Playing =
+    (recording rows message : List ℕ) (buffer : ℕ → List ℕ) → Fitting recording rows message buffer
+    → Printed recording rows message buffer (transcript recording)

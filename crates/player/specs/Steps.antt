@@ -1,5 +1,5 @@
--- Playing in steps: how a recording starts, and one step as a function of the player and every lent list.
-use mathlib.Core.Bool.{true, false}
+-- Playing in steps: how a recording starts, and one step as a function of the player, its rows and its message buffer.
+use mathlib.Core.Bool.{Bool, true, false}
 use mathlib.Core.List.{List, []}
 use Prim.Native.Nat.{ℕ, _-_}
 use lib.Dec.{eqb, ltb}
@@ -9,20 +9,16 @@ use Rattle.protocol.specs.declared.Receiver.{Receiver}
 use Rattle.protocol.specs.declared.Cause.{Cause}
 use Rattle.protocol.specs.declared.Cause.the-variants.{BadLength}
 use Rattle.protocol.specs.Lengths.{frameLen}
-use Rattle.protocol.specs.declared.Reply.{Reply}
 use Rattle.protocol.specs.declared.Answer.{Answer}
 use Rattle.protocol.specs.declared.Answer.the-variants.{Accepted, Refused}
 use Rattle.protocol.specs.Causes.{Found, nothing, cause}
 use Rattle.protocol.specs.Calls.{openReceiverOf, Reported, messageDue, lossOf, heardOf}
 use Rattle.recording.specs.declared.Found.the-variants.{Frame, Part, End}
 use Rattle.recording.specs.Found.{foundAt}
-use Rattle.lines.specs.Text.{stopLine, lineOf, written}
-use Rattle.lines.specs.Lent.{longest}
+use Rattle.lines.specs.Text.{stopLine, lineOf}
 use Rattle.player.specs.declared.Player.{Player}
 use Rattle.player.specs.declared.Start.{Start}
 use Rattle.player.specs.declared.Start.the-variants.{Empty, Stop, Play}
-use Rattle.player.specs.declared.Turn.{Turn}
-use Rattle.player.specs.declared.Turn.the-variants.{NoRoom, More, Over}
 use Rattle.player.specs.Transcript.{settingsIn, recordingCause, slotIn, frameStop, refuses}
 
 -- the first cause that holds, as an answer
@@ -59,27 +55,23 @@ beginOf s rows message =
 
 -- ---- a step
 
--- what a step prints, and what it leaves
+-- what a step prints, what it leaves, and whether it is the last
 pub record Act : Type 0 where
   pub player : Player
   pub rows : List ℕ
   pub message : List ℕ
   pub text : List ℕ
-  pub turn : Turn
+  pub over : Bool
 
 -- the end: nothing is left of the recording
 unfoldable pub endAct : Player → List ℕ → List ℕ → Act
-endAct p rows message = record { player = p; rows = rows; message = message; text = []; turn = Over }
+endAct p rows message = record { player = p; rows = rows; message = message; text = []; over = true }
 
 -- a refusal
 unfoldable pub stopAct : Player → List ℕ → List ℕ → Cause → Act
-stopAct p rows message c = record { player = p; rows = rows; message = message; text = stopLine c; turn = Over }
+stopAct p rows message c = record { player = p; rows = rows; message = message; text = stopLine c; over = true }
 
--- a refused report is the last
-unfoldable pub turnOf : Reply → Turn
-turnOf r = elim (refuses r) [ true ↦ Over | false ↦ More ]
-
--- a report of the slot due, after which the next frame starts at this offset
+-- a report of the slot due, after which the next frame starts at this offset; a refused one is the last
 unfoldable pub reportAct : Receiver → ℕ → Reported → Act
 reportAct x offset r =
     record {
@@ -87,7 +79,7 @@ reportAct x offset r =
       rows = r .rows;
       message = r .message;
       text = lineOf (messageDue (x .settings) (x .due)) (r .reply) (r .message);
-      turn = elim (refuses (r .reply)) [ true ↦ Over | false ↦ More ];
+      over = refuses (r .reply);
     }
 
 -- at a frame that ends at this offset: it stops the player, or the slot due is below its own and is lost, or it is reported
@@ -109,32 +101,4 @@ actOf p recording rows message =
       | End ↦ endAct p rows message
       | Part ↦ stopAct p rows message BadLength
       | Frame start end ↦ frameAct p (take (end - start) (drop start recording)) end rows message
-    ]
-
-pub record Stepped : Type 0 where
-  pub player : Player
-  pub rows : List ℕ
-  pub message : List ℕ
-  pub line : List ℕ
-  pub len : ℕ
-  pub turn : Turn
-
--- a step that prints over the start of a lent line
-unfoldable pub onLine : List ℕ → Act → Stepped
-onLine line a =
-    record {
-      player = a .player;
-      rows = a .rows;
-      message = a .message;
-      line = written (a .text) line;
-      len = length (a .text);
-      turn = a .turn;
-    }
-
--- a step with a lent line, which must have room for the longest
-unfoldable pub stepOf : Player → List ℕ → List ℕ → List ℕ → List ℕ → Stepped
-stepOf p recording rows message line =
-    elim (ltb (length line) (longest message)) [
-      | true ↦ record { player = p; rows = rows; message = message; line = line; len = 0; turn = NoRoom }
-      | false ↦ onLine line (actOf p recording rows message)
     ]

@@ -1,16 +1,16 @@
-// Playing a recording: how it starts, and the steps that print it, a report and at most one line each. Document 01, "Playing a
-// recording".
+// Playing a recording: how it starts, and the steps that print it, a report and at most one line each, gathered in a buffer that the
+// caller writes out. Document 01, "Playing a recording".
+mod filling;
 mod frame;
 mod opening;
 mod steps;
 
 use code::Settings;
+pub use filling::fill;
 pub use opening::examine;
 use protocol::Cause;
 use protocol::Receiver;
-pub use steps::Stepped;
 pub use steps::begin;
-pub use steps::step;
 
 // What a player keeps between two steps: the receiver, and where in the recording the next frame starts.
 pub struct Player {
@@ -28,12 +28,10 @@ pub enum Start {
     Play(Settings),
 }
 
-// How a step went.
-pub enum Turn {
-    // The lent line has less room than the longest takes; nothing has changed.
-    NoRoom,
-    // There is more to play.
-    More,
+// How far playing on came: the player as it is then, and how many bytes of the lent buffer are printed, from its first on.
+pub struct Progress {
+    pub player: Player,
+    pub len: usize,
     // The recording is played, or a refusal has ended it.
-    Over,
+    pub over: bool,
 }

@@ -1,10 +1,9 @@
 // The steps of a player: each makes one report, and writes at most one line over the start of a lent one.
 use crate::Player;
-use crate::Turn;
+use crate::Progress;
 use crate::frame::slot_of;
 use crate::frame::stop_of;
 use code::Settings;
-use lines::has_room;
 use lines::write_line;
 use lines::write_stop;
 use protocol::Answer;
@@ -18,22 +17,21 @@ use recording::Found;
 use recording::next_frame;
 use terminal::report_kept;
 ghost use mathlib.Core.Path.{_≡_};
+ghost use mathlib.Core.Bool.{true};
 ghost use Prim.Native.Nat.{_+_, _*_, _≤_};
 ghost use lib.ListN.{length};
 ghost use Rattle.protocol.specs.Calls.{messageDue};
 ghost use Rattle.lines.specs.Text.{stopLine, lineOf, written};
-ghost use Rattle.player.specs.Steps.{beginOf, turnOf, frameAct, onLine, stepOf};
-
-// What a step gives back; `len` is how much of the lent line it has written.
-pub struct Stepped {
-    pub player: Player,
-    pub turn: Turn,
-    pub len: usize,
-}
+ghost use Rattle.player.specs.Transcript.{refuses};
+ghost use Rattle.player.specs.Steps.{beginOf, frameAct, actOf};
+ghost use Rattle.player.specs.Filling.{outcome, printedOn};
 
 // A player at the start of a recording with these settings.
 pub fn begin(s: Settings, rows: &mut [u8], message: &mut [u8]) -> Player
-    ensures { λ r. ⌜ record { player = r; rows = now (rows .exit); message = now (message .exit) } ≡ beginOf s (now (rows .entry)) (now (message .entry)) ⌝ }
+    ensures { λ r. ⌜
+        record { player = r; rows = now (rows .exit); message = now (message .exit) }
+        ≡ beginOf s (now (rows .entry)) (now (message .entry))
+        ⌝ }
 {
     let opened = receiver::open(s, rows);
     clear(message);
@@ -56,47 +54,57 @@ fn about(x: Receiver) -> u32
     x.due - delay
 }
 
-// A refused report is the last.
-fn turn_of(r: Reply) -> Turn
-    ensures { λ t. ⌜ t ≡ turnOf r ⌝ }
+// Whether a report was refused.
+fn refused(r: Reply) -> bool
+    ensures { λ b. ⌜ b ≡ refuses r ⌝ }
 {
     match r {
-        Reply::Refused(_) => Turn::Over,
-        Reply::NoneYet => Turn::More,
-        Reply::Whole => Turn::More,
-        Reply::Lost => Turn::More,
-        Reply::Clash => Turn::More,
+        Reply::Refused(_) => true,
+        Reply::NoneYet => false,
+        Reply::Whole => false,
+        Reply::Lost => false,
+        Reply::Clash => false,
     }
 }
 
 // A refusal is the last step.
-fn stopped(p: Player, c: Cause, line: &mut [u8]) -> Stepped
+fn stopped(p: Player, c: Cause, line: &mut [u8]) -> Progress
     requires { ⌜ 18 ≤ length (now line) ⌝ }
-    ensures { λ r. ⌜ (r .player ≡ p) × (r .turn ≡ Turn.Over) × (r .len ≡ length (stopLine c)) × (now (line .exit) ≡ written (stopLine c) (now (line .entry))) ⌝ }
+    ensures { λ r. ⌜
+        (r .player ≡ p)
+        × (r .len ≡ length (stopLine c))
+        × (r .over ≡ true)
+        × (now (line .exit) ≡ written (stopLine c) (now (line .entry)))
+        ⌝ }
 {
     let len = write_stop(c, line);
-    Stepped {
+    Progress {
         player: p,
-        turn: Turn::Over,
         len: len,
+        over: true,
     }
 }
 
-// A report by this receiver, told on the line; the next frame starts at the offset.
-fn told(x: Receiver, offset: usize, r: Reported, message: &[u8], line: &mut [u8]) -> Stepped
+// A report by this receiver, told on the line; the next frame starts at the offset, and a refused report is the last.
+fn told(x: Receiver, offset: usize, r: Reported, message: &[u8], line: &mut [u8]) -> Progress
     requires { ⌜ 18 + 2 * length (now message) ≤ length (now line) ⌝ }
-    ensures { λ q. ⌜ (q .player ≡ record { receiver = r .receiver; offset = offset }) × (q .turn ≡ turnOf (r .reply)) × (q .len ≡ length (lineOf (messageDue (x .settings) (x .due)) (r .reply) (now (message .entry)))) × (now (line .exit) ≡ written (lineOf (messageDue (x .settings) (x .due)) (r .reply) (now (message .entry))) (now (line .entry))) ⌝ }
+    ensures { λ q. ⌜
+        (q .player ≡ record { receiver = r .receiver; offset = offset })
+        × (q .len ≡ length (lineOf (messageDue (x .settings) (x .due)) (r .reply) (now (message .entry))))
+        × (q .over ≡ refuses (r .reply))
+        × (now (line .exit) ≡ written (lineOf (messageDue (x .settings) (x .due)) (r .reply) (now (message .entry))) (now (line .entry)))
+        ⌝ }
 {
     let reply = r.reply;
     let after = r.receiver;
     let len = write_line(about(x), reply, message, line);
-    Stepped {
+    Progress {
         player: Player {
             receiver: after,
             offset: offset,
         },
-        turn: turn_of(reply),
         len: len,
+        over: refused(reply),
     }
 }
 
@@ -108,9 +116,12 @@ fn at_frame(
     rows: &mut [u8],
     message: &mut [u8],
     line: &mut [u8],
-) -> Stepped
+) -> Progress
     requires { ⌜ (14 ≤ length (now frame)) × (18 + 2 * length (now message) ≤ length (now line)) ⌝ }
-    ensures { λ r. ⌜ record { player = r .player; rows = now (rows .exit); message = now (message .exit); line = now (line .exit); len = r .len; turn = r .turn } ≡ onLine (now (line .entry)) (frameAct p (now (frame .entry)) end (now (rows .entry)) (now (message .entry))) ⌝ }
+    ensures { λ r. ⌜
+        outcome r (now (rows .exit)) (now (message .exit)) (now (line .exit))
+        ≡ printedOn (now (line .entry)) (frameAct p (now (frame .entry)) end (now (rows .entry)) (now (message .entry)))
+        ⌝ }
 {
     let x = p.receiver;
     let stop = stop_of(x, frame);
@@ -126,29 +137,26 @@ fn at_frame(
 }
 
 // One step: a report, and its line.
-pub fn step(
+pub(crate) fn step(
     p: Player,
     recording: &[u8],
     rows: &mut [u8],
     message: &mut [u8],
     line: &mut [u8],
-) -> Stepped
-    ensures { λ r. ⌜ record { player = r .player; rows = now (rows .exit); message = now (message .exit); line = now (line .exit); len = r .len; turn = r .turn } ≡ stepOf p (now (recording .entry)) (now (rows .entry)) (now (message .entry)) (now (line .entry)) ⌝ }
+) -> Progress
+    requires { ⌜ 18 + 2 * length (now message) ≤ length (now line) ⌝ }
+    ensures { λ r. ⌜
+        outcome r (now (rows .exit)) (now (message .exit)) (now (line .exit))
+        ≡ printedOn (now (line .entry)) (actOf p (now (recording .entry)) (now (rows .entry)) (now (message .entry)))
+        ⌝ }
 {
-    if !has_room(line.len(), message.len()) {
-        return Stepped {
-            player: p,
-            turn: Turn::NoRoom,
-            len: 0,
-        };
-    }
     let x = p.receiver;
     let s = x.settings;
     match next_frame(recording, p.offset, frame_len(s)) {
-        Found::End => Stepped {
+        Found::End => Progress {
             player: p,
-            turn: Turn::Over,
             len: 0,
+            over: true,
         },
         Found::Part => stopped(p, Cause::BadLength, line),
         Found::Frame { start, end } => {

@@ -1,6 +1,6 @@
 -- The buffers are long enough for any settings that are accepted.
 use borrow.Author.Needs.{needs}
-use mathlib.Core.Path.{_≡_, sym, ap, _∙_}
+use mathlib.Core.Path.{sym, ap, _∙_}
 use native.Mathlib.Omega.{arith}
 use denote.Ref.{now}
 use lib.Dec.{T}
@@ -43,7 +43,7 @@ play-steps-requires c κs =
     let a = at .before .before .before .before .before .before .before .args in
     let few = message-few (at .s .given .0 .0) (ok at) in
     let part = length-take (lengths .message-len .result) (now (a .message)) in
-    (omega (arith, few, part, lengths .message-len .ensures), omega arith)
+    omega (arith, few, part, lengths .message-len .ensures)
 
 pub play-spec : {M : Type 1} → statement M
 play-spec =

@@ -9,7 +9,8 @@ use lib.ListN.{length}
 use Rattle.protocol.specs.Calls.{Reported}
 use Rattle.protocol.specs.TwoLists.{reportOf}
 use Rattle.terminal.specs.Given.{reportIn}
-use Rattle.player.specs.Steps.{Act, reportAct, onLine}
+use Rattle.player.specs.Steps.{reportAct}
+use Rattle.player.specs.Filling.{printedOn}
 use Rattle.player.proofs.StepOutcomes.{frame-stops, frame-skips, frame-hears, stop-line, report-line}
 use Rattle.player.proofs.steps.at_frame.Statement.{statement}
 use Rattle.player.proofs.steps.at_frame.Tie as tie
@@ -26,7 +27,7 @@ returns c =
     let why = refused .stop .given .0 .0 in
     stop-line (now (a .line)) _ _ _ _ (a .p) (now (a .rows)) (now (a .message)) why
     (called .stopped .ensures .0) (called .stopped .ensures .1) (called .stopped .ensures .2) (called .stopped .ensures .3)
-    ∙ ap (onLine (now (a .line)))
+    ∙ ap (printedOn (now (a .line)))
     (frame-stops (a .p) (now (a .frame)) (a .end) (now (a .rows)) (now (a .message)) why
     (sym (asked .stop-of .ensures) ∙ refused .stop .given .1))
 
@@ -58,8 +59,8 @@ returns-2 c =
     let x = a .p .receiver in
     report-line (now (a .line)) _ _ _ _ x (a .p .offset) _
     (called .told .ensures .0) (called .told .ensures .1) (called .told .ensures .2) (called .told .ensures .3)
-    ∙ ap (λ (r : Reported). onLine (now (a .line)) (reportAct x (a .p .offset) r)) (kept .report-kept .ensures)
-    ∙ ap (onLine (now (a .line)))
+    ∙ ap (λ (r : Reported). printedOn (now (a .line)) (reportAct x (a .p .offset) r)) (kept .report-kept .ensures)
+    ∙ ap (printedOn (now (a .line)))
     (frame-skips (a .p) (now (a .frame)) (a .end) (now (a .rows)) (now (a .message))
     (sym (asked .stop-of .ensures) ∙ passed .enum-told .given .1)
     (subst (λ (n : ℕ). x .due < n) (test .before .before .slot-of .ensures) (test .if1 .taken)))
@@ -76,8 +77,8 @@ returns-3 c =
     let x = a .p .receiver in
     report-line (now (a .line)) _ _ _ _ x (a .end) _
     (called .told2 .ensures .0) (called .told2 .ensures .1) (called .told2 .ensures .2) (called .told2 .ensures .3)
-    ∙ ap (λ (r : Reported). onLine (now (a .line)) (reportAct x (a .end) r)) (kept .report-kept2 .ensures)
-    ∙ ap (onLine (now (a .line)))
+    ∙ ap (λ (r : Reported). printedOn (now (a .line)) (reportAct x (a .end) r)) (kept .report-kept2 .ensures)
+    ∙ ap (printedOn (now (a .line)))
     (frame-hears (a .p) (now (a .frame)) (a .end) (now (a .rows)) (now (a .message))
     (sym (asked .stop-of .ensures) ∙ passed .enum-told .given .1)
     (subst (λ (n : ℕ). n ≤ x .due) (test .before .before .slot-of .ensures) (test .if1 .left)))

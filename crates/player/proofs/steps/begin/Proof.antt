@@ -1,10 +1,8 @@
 -- The opening's rows and receiver, and a message buffer that is cleared.
 use borrow.Author.Needs.{needs}
-use mathlib.Core.Path.{_≡_, ap, ap₂, _∙_}
+use mathlib.Core.Path.{ap₂}
 use mathlib.Core.List.{List}
 use Prim.Native.Nat.{ℕ}
-use denote.Ref.{now}
-use lib.ListN.{length, replicate}
 use Rattle.protocol.specs.Calls.{OpenedReceiver}
 use Rattle.player.specs.Steps.{Begun, beginOf}
 use Rattle.player.proofs.steps.begin.Statement.{statement}

@@ -11,7 +11,7 @@ returns : tie.Need-returns
 returns c =
     let a = c .before .before .before .before .before .args in
     let wrote = stop-parts (a .c) (now (a .line)) _ _ (c .before .before .write-stop .ensures) (omega arith) in
-    (refl, refl, wrote .0, wrote .1)
+    (refl, wrote .0, refl, wrote .1)
 
 pub stopped-spec : {M : Type 1} → statement M
 stopped-spec = tie.close (tie.spec (λ c κs. search needs) (λ c. search needs) returns)

@@ -20,8 +20,8 @@ returns c =
     let same = number .ensures in
     let wrote = line-parts (number .result) (a .r .reply) (now (a .message)) (now (a .line)) _ _ (called .write-line .ensures) (start .pre) in (
       refl,
-      c .turn-of .ensures,
       wrote .0 ∙ ap (λ (t : ℕ). length (lineOf t (a .r .reply) (now (a .message)))) same,
+      c .refused .ensures,
       wrote .1 ∙ ap (λ (t : ℕ). written (lineOf t (a .r .reply) (now (a .message))) (now (a .line))) same,
     )
 

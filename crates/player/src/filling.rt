@@ -1,0 +1,41 @@
+// Filling a lent buffer with the lines of steps, one after another.
+use crate::Player;
+use crate::Progress;
+use crate::steps::step;
+use lines::has_room;
+ghost use mathlib.Core.Path.{_≡_};
+ghost use Rattle.player.specs.Filling.{outcome, filledOf};
+
+// Plays on until the longest line may not fit into what is left of the buffer, or the recording is over.
+pub fn fill(
+    p: Player,
+    recording: &[u8],
+    rows: &mut [u8],
+    message: &mut [u8],
+    out: &mut [u8],
+) -> Progress
+    ensures { λ r. ⌜
+        outcome r (now (rows .exit)) (now (message .exit)) (now (out .exit))
+        ≡ filledOf p (now (recording .entry)) (now (rows .entry)) (now (message .entry)) (now (out .entry))
+        ⌝ }
+{
+    let mut q = p;
+    let mut at: usize = 0;
+    while has_room(out.len() - at, message.len()) {
+        let stepped = step(q, recording, rows, message, &mut out[at..]);
+        q = stepped.player;
+        at += stepped.len;
+        if stepped.over {
+            return Progress {
+                player: q,
+                len: at,
+                over: true,
+            };
+        }
+    }
+    Progress {
+        player: q,
+        len: at,
+        over: false,
+    }
+}
