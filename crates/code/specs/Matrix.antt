@@ -23,14 +23,6 @@ unfoldable pub product : ℕ → ℕ → ℕ → ℕ → ℕ
 product N i j zero = 1
 product N i j (suc m) = product N i j m ⊠ factor i j (point N i m)
 
--- a number as an element of the field of sixteen
-abbrev pub gf16 : ℕ → Gf16
-gf16 a = record { 0 = a }
-
--- the products over the first m zero points of row i, at positions 0 to 15
-unfoldable pub productRow : ℕ → ℕ → ℕ → List Gf16
-productRow N i m = table 16 (λ j. gf16 (product N i j m))
-
 -- the spread form: the product over all k - 1 zero points
 unfoldable pub spread : Settings → ℕ → ℕ → ℕ
 spread s i j = product (s .scattered) i j (delayOf s - s .scattered)
@@ -45,3 +37,11 @@ entry s i j =
     cond (ltb i (kOf s) && ltb j (nOf s))
     (cond (ltb i (dOf s) && leb (delayOf s) j) (alphaEntry (delayOf s) i j) (widen (spread s i j)))
     0
+
+-- a number as an element of the field of sixteen
+abbrev pub gf16 : ℕ → Gf16
+gf16 a = record { 0 = a }
+
+-- the products over the first m zero points of row i, at positions 0 to 15
+unfoldable pub productRow : ℕ → ℕ → ℕ → List Gf16
+productRow N i m = table 16 (λ j. gf16 (product N i j m))

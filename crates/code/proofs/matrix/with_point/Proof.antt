@@ -5,17 +5,12 @@ use native.Mathlib.Omega.{arith}
 use Prim.Native.Nat.{ℕ, _-_, _<_, _≤_, zero-le}
 use borrow.Author.Needs.{needs}
 use lib.ListN.{length, getD, length-set}
-use Rattle.galois.specs.Narrow.{_⊞_, _⊠_, narrowQuotient}
+use Rattle.galois.specs.Narrow.{_⊠_, narrowQuotient}
 use Rattle.galois.proofs.ByIndex.{is-table, filled-more}
 use Rattle.code.specs.Matrix.{factor, gf16}
 use Rattle.code.proofs.Rows.{factor-once}
 use Rattle.code.proofs.matrix.with_point.Statement.{statement}
 use Rattle.code.proofs.matrix.with_point.Tie as tie
-use Rattle.code.proofs.matrix.with_point.Reads as reads
-use Rattle.code.proofs.matrix.with_point.Lts as lts
-use Rattle.code.proofs.matrix.shifted.Reads as shifted-reads
-use Rattle.galois.proofs.narrow.Gf16.product.Reads as product-reads
-use Rattle.galois.proofs.narrow.Gf16.quotient.Reads as quotient-reads
 
 abbrev Inv-loop : tie.InvT-loop
 Inv-loop row point products divided out₀ j₀ out j =

@@ -39,9 +39,7 @@ returns c =
     let a = c .before .before .args in
     table-equal 16 (λ j. 0) (λ j. entry (a .s) (a .row) j) (λ j _. sym (entry-row-outside (a .s) (a .row) j (omega arith)))
 
-sub-spread-row : tie.Need-sub-spread-row Inv-loop μ-loop
-sub-spread-row c = omega arith
-
+-- k - 1 is T - N, or 0
 cast-spread-row : tie.Need-cast-spread-row Inv-loop μ-loop
 unfolding kOf delayOf
 cast-spread-row c = search needs
@@ -81,7 +79,7 @@ generator-row-spec =
     μ-loop
     (λ c κs. tt)
     returns
-    sub-spread-row
+    (λ c. omega arith)
     cast-spread-row
     (λ c κs. tt)
     (λ c. (zero-le, refl, λ i h. absurd (not-suc-le-zero h)))
