@@ -1,12 +1,12 @@
 -- The rows tell the truth: what arrived of each codeword is what was heard of it.
-use mathlib.Core.Path.{_≡_, sym, ap, _∙_}
+use mathlib.Core.Path.{_≡_, sym, ap, _∙_, subst}
 use mathlib.Core.Bool.{Bool, true, false, true≢false}
 use mathlib.Core.List.{List, _∷_}
 use mathlib.Core.Logic.{_↔_, ⊎-elim}
 use Prim.Native.Nat.{ℕ, suc, _+_, _-_, _*_, _≤_, _<_}
 use native.Mathlib.Nat.{mul-le-mul-right, suc-mul}
 use native.Mathlib.Omega.{arith}
-use lib.Dec.{T, eqb, ltb, eqb→eq, eqb-refl, ltb→lt, lt→ltb}
+use lib.Dec.{T, eqb, eqb→eq, eqb-refl, ltb→lt, lt→ltb}
 use lib.ListN.{getD, drop, replicate, length-replicate, getD-replicate, List·getD-eq-default}
 use lib.Seq.{getD-drop}
 use borrow.Author.Tests.{le-leb, lt-leb}
@@ -18,10 +18,10 @@ use Rattle.repair.specs.Fair.{lostPosition}
 use Rattle.protocol.specs.Lengths.{bodyLen, rowLen}
 use Rattle.protocol.specs.Verdict.{rowAt, arrived, reportedAt}
 use Rattle.protocol.specs.Calls.{receivedZeros}
-use Rattle.protocol.specs.TwoLists.{Report, heard, missed, ReportMade}
-use Rattle.protocol.specs.Claim.{lostAt}
-use Rattle.protocol.proofs.ReportRows.{rowOf}
-use Rattle.protocol.proofs.SlotReports.{ReportedAs, Heard, heard-kept, lost-as}
+use Rattle.protocol.specs.TwoLists.{Report, heard, missed, ReportMade, rowOf}
+use Rattle.protocol.specs.Histories.{ReportedAs, Heard, lostAt}
+use Rattle.protocol.specs.Meaning.{Came}
+use Rattle.protocol.proofs.SlotReports.{heard-kept, lost-as}
 use Rattle.protocol.proofs.SlotRows.{Telling, row-early, row-late, flag-early, flag-late, slot-report}
 
 -- position p of lane v stands in a row
@@ -112,18 +112,6 @@ module _ {s : Settings} {told : List ReportMade} {r : ReportMade} {t : ℕ} (c :
       let found = slot-report c i p hi late hp in
       known-frame late hp (known-flag k) (found .0) (found .1)
 
-  known-kept : T (seen s r t i v .known p) → lostPosition (lostAt told) t i p ≡ false
-  known-kept k =
-      ⊎-elim
-      (λ late.
-      let found = known-slot k late in
-      position-late (lostAt told) t i p late ∙ heard-kept (c .chain) (t + p - i) (found .0) (found .1))
-      (λ early. position-early (lostAt told) t i p early) (le-or-lt i (t + p))
-
-  -- a position is known exactly if it came in time and was not lost
-  pub known-heard : T (seen s r t i v .known p) ↔ ((p ≤ i + delayOf s) × (lostPosition (lostAt told) t i p ≡ false))
-  known-heard = (λ k. (known-in-time k, known-kept k), λ h. known-if (h .0) (h .1))
-
   -- ---- its bytes
 
   -- before slot 0 they are 0
@@ -149,3 +137,29 @@ module _ {s : Settings} {told : List ReportMade} {r : ReportMade} {t : ℕ} (c :
   heard-byte hp hv k late =
       let found = known-slot k late in
       (found .0, found .1, byte-of hp hv late (known-in-time k) (found .0) (found .1))
+
+  -- ---- both
+
+  came-from : p < nOf s → v < s .lanes → (b : ℕ) → T (seen s r t i v .known p) → seen s r t i v .byte p ≡ b → Came s told t i v p b
+  came-from hp hv b k e =
+      ⊎-elim
+      (λ late.
+      let (f, h, same) = heard-byte hp hv k late in
+      subst (Came s told t i v p) (sym same ∙ e) (Came.heard f late h))
+      (λ early. subst (Came s told t i v p) (sym (early-zero hp hv early) ∙ e) (Came.early early)) (le-or-lt i (t + p))
+
+  came-known : p < nOf s → v < s .lanes → (b : ℕ) → p ≤ i + delayOf s → Came s told t i v p b
+      → T (seen s r t i v .known p) × (seen s r t i v .byte p ≡ b)
+  came-known hp hv b to (Came.early early) = (known-if to (position-early (lostAt told) t i p early), early-zero hp hv early)
+  came-known hp hv b to (Came.heard f late h) = (
+    known-if to (position-late (lostAt told) t i p late ∙ heard-kept (c .chain) (t + p - i) f h),
+    byte-of hp hv late to f h,
+  )
+
+  -- a position is known with a byte exactly if its slot is at most t + T and brought it
+  pub known-came : p < nOf s → v < s .lanes → (b : ℕ)
+      → (T (seen s r t i v .known p) × (seen s r t i v .byte p ≡ b)) ↔ ((p ≤ i + delayOf s) × Came s told t i v p b)
+  known-came hp hv b = (
+    λ (k, e). (known-in-time k, came-from hp hv b k e),
+    λ (to, from). came-known hp hv b to from,
+  )

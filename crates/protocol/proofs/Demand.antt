@@ -1,29 +1,27 @@
 -- Demand 3, proved of any list of sends and any list of reports: `demand3`, whose statement is `Demand3` of specs/Claim.antt.
-use mathlib.Core.Path.{_≡_, refl, sym, ap, _∙_, subst, subst⁻¹}
+use mathlib.Core.Path.{_≡_, refl, ap, _∙_, subst, subst⁻¹}
 use mathlib.Core.Bool.{Bool, true, false, not}
-use mathlib.Core.Logic.{_⊎_, inl, inr, ⊎-elim}
+use mathlib.Core.Logic.{⊎-elim}
 use mathlib.Core.List.{List, List·Memᴰ}
-use Prim.Native.Nat.{ℕ, _+_, _-_, _*_, _≤_, _<_, zero-le}
+use Prim.Native.Nat.{ℕ, _+_, _-_, _≤_, zero-le}
 use native.Mathlib.Omega.{arith}
 use lib.Dec.{T}
-use lib.ListN.{length, getD}
+use lib.ListN.{length}
 use Rattle.galois.proofs.Cases.{all-or-one}
 use Rattle.code.specs.declared.settings.Settings.{Settings}
-use Rattle.code.specs.Settings.{accepted, delayOf, kOf, nOf}
-use Rattle.code.specs.Word.{symbol}
+use Rattle.code.specs.Settings.{accepted, delayOf, kOf}
 use Rattle.code.proofs.Shape.{Shape, shape}
 use Rattle.repair.specs.Fair.{Fair, lostPosition}
 use Rattle.repair.proofs.Window.{not-all-lost}
 use Rattle.protocol.specs.declared.Reply.the-variants as reply
-use Rattle.protocol.specs.Codewords.{source}
-use Rattle.protocol.specs.Lengths.{messageLen, senderLen, receiverLen}
-use Rattle.protocol.specs.Calls.{openSenderOf, openReceiverOf}
-use Rattle.protocol.specs.TwoLists.{Send, SendMade, sends, Report, heard, ReportMade, reports}
-use Rattle.protocol.specs.Claim.{Bytes, SentAs, accepts, lostAt, Faithful, Holds, Demand3}
-use Rattle.protocol.proofs.Histories.{messageAt}
+use Rattle.protocol.specs.Lengths.{messageLen}
+use Rattle.protocol.specs.Calls.{openReceiverOf}
+use Rattle.protocol.specs.TwoLists.{Send, SendMade, heard, ReportMade, reports}
+use Rattle.protocol.specs.Histories.{Bytes, SentAs, messageAt, accepts, Heard, lostAt}
+use Rattle.protocol.specs.Claim.{Faithful, Holds, Demand3}
 use Rattle.protocol.proofs.SenderList.{sentOf, opened-sent, once, message-at, sent-before, message-byte, sends-taken, sent-lengths, sent-header, frame-true}
 use Rattle.protocol.proofs.ReportChain.{Chain, opened-chain}
-use Rattle.protocol.proofs.SlotReports.{Heard, reported-below}
+use Rattle.protocol.proofs.SlotReports.{reported-below}
 use Rattle.protocol.proofs.Received.{reports-taken, own-accepted, told-at}
 use Rattle.protocol.proofs.ReceivedRows.{openedRows}
 use Rattle.protocol.proofs.SlotRows.{Telling}

@@ -21,13 +21,13 @@ use Rattle.code.specs.Word.{wordAt, multipliers, symbol}
 use Rattle.repair.specs.Fair.{Fair, losses, runAt, oneRun, fairStretch}
 use Rattle.protocol.specs.declared.Reply.the-variants as reply
 use Rattle.protocol.specs.Lengths.{lastSlot, messageLen, bodyLen, frameLen, senderLen, rowLen, rowCount, receiverLen}
-use Rattle.protocol.specs.Rows.{putRow, joined}
 use Rattle.protocol.specs.Frame.{mark, five, slotBytes, header, remembered, sentSymbol, bodyOf, frameOf}
+use Rattle.protocol.specs.Rows.{putRow, joined}
 use Rattle.protocol.specs.Causes.{openCause, sendCause}
 use Rattle.protocol.specs.Calls.{openSenderOf, OpenedReceiver, openReceiverOf, receivedZeros, sendOf, Reported, movedOn}
-use Rattle.protocol.specs.TwoLists.{Send, SendMade, sends, Report, heard, missed, ReportMade, reports}
-use Rattle.protocol.specs.Claim.{Bytes, SentAs, accepts, ofLoss, lostAt, Faithful, NoCause, Holds, Demand3}
-use Rattle.protocol.proofs.ReportRows.{rowOf}
+use Rattle.protocol.specs.TwoLists.{Send, SendMade, sends, Report, heard, missed, ReportMade, reports, rowOf}
+use Rattle.protocol.specs.Histories.{Bytes, SentAs, accepts, ofLoss, lostAt}
+use Rattle.protocol.specs.Claim.{Faithful, NoCause, Holds, Demand3}
 use Rattle.protocol.proofs.ReportSteps.{made, Taken, step}
 use Rattle.protocol.proofs.ReportChain.{waiting, written, opened-receiver}
 use Rattle.protocol.proofs.Demand.{demand3}

@@ -1,5 +1,5 @@
 -- The lengths fit a machine word, whatever the settings.
-use Prim.Native.Nat.{ℕ, _-_, _*_, _≤_, _<_}
+use Prim.Native.Nat.{_-_, _*_, _≤_, _<_}
 use native.Mathlib.Nat.{mul-le-mul}
 use native.Mathlib.Omega.{arith}
 use Rattle.code.specs.declared.settings.Settings.{Settings}

@@ -11,7 +11,7 @@ use borrow.Author.Tests.{eqb-true, eqb-false, eq-eqb, ne-eqb}
 use Rattle.galois.proofs.Cases.{is-true, is-false}
 use Rattle.code.specs.declared.settings.Settings.{Settings}
 use Rattle.protocol.specs.TwoLists.{Report, ReportMade}
-use Rattle.protocol.specs.Claim.{accepts, ofLoss, lostAt}
+use Rattle.protocol.specs.Histories.{accepts, ofLoss, lostAt}
 use Rattle.protocol.proofs.ReportChain.{Chain, done, onward, again}
 
 -- the accepted report of slot τ, if there is one

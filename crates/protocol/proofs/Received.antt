@@ -15,9 +15,9 @@ use Rattle.protocol.specs.Lengths.{lastSlot, messageLen, frameLen, recei
 use Rattle.protocol.specs.Frame.{header}
 use Rattle.protocol.specs.Verdict.{verdict, bufferOf}
 use Rattle.protocol.specs.Calls.{messageDue, Reported, movedOn}
-use Rattle.protocol.specs.TwoLists.{Report, heard, ReportMade}
-use Rattle.protocol.specs.Claim.{accepts, NoCause, ReportTaken}
-use Rattle.protocol.proofs.ReportRows.{rowOf}
+use Rattle.protocol.specs.TwoLists.{Report, heard, ReportMade, rowOf}
+use Rattle.protocol.specs.Histories.{accepts}
+use Rattle.protocol.specs.Claim.{NoCause, ReportTaken}
 use Rattle.protocol.proofs.ReportSteps.{Taken, Stayed}
 use Rattle.protocol.proofs.ReportChain.{waiting, Chain, done, onward, again}
 
@@ -54,14 +54,14 @@ accepted-taken r (inl t) ok = t
 accepted-taken r (inr t) ok = absurd (t .failed ok)
 
 -- what a report of slot t + T tells of message t
-abbrev pub Tells : Settings → ℕ → Reported → Type 0
-Tells s t q =
+abbrev pub ByVerdict : Settings → ℕ → Reported → Type 0
+ByVerdict s t q =
     (q .reply ≡ verdict s (q .rows) (t + delayOf s + 1) t)
     × (q .message ≡ bufferOf s (q .rows) (t + delayOf s + 1) t (verdict s (q .rows) (t + delayOf s + 1) t))
 
-tells : (s : Settings) (t : ℕ) (row rows : List ℕ) → Tells s t (movedOn (waiting s (t + delayOf s)) row rows)
+pub by-verdict : (s : Settings) (t : ℕ) (row rows : List ℕ) → ByVerdict s t (movedOn (waiting s (t + delayOf s)) row rows)
 unfolding movedOn messageDue
-tells s t row rows = rw (le-ltb (t + delayOf s) (delayOf s) (omega arith), add-sub-cancel t (delayOf s)) (refl, refl)
+by-verdict s t row rows = rw (le-ltb (t + delayOf s) (delayOf s) (omega arith), add-sub-cancel t (delayOf s)) (refl, refl)
 
 module _ {s : Settings} {d : ℕ} {rows : List ℕ} {told : List ReportMade} (chain : Chain s d rows told) where
   -- a report is accepted exactly where no listed cause holds, in terms of the settings of the opening
@@ -78,23 +78,12 @@ module _ {s : Settings} {d : ℕ} {rows : List ℕ} {told : List ReportMade} (ch
   pub taken-of : (r : ReportMade) → List·Memᴰ r told → T (accepts (r .after .reply)) → Taken r
   taken-of r listed ok = accepted-taken r (along chain r listed .outcome) ok
 
-  -- it raises the slot due by one
-  pub due-after : (r : ReportMade) → List·Memᴰ r told → T (accepts (r .after .reply)) → r .after .receiver .due ≡ r .before .due + 1
-  unfolding movedOn
-  due-after r listed ok = ap (λ (q : Reported). q .receiver .due) (taken-of r listed ok .moved)
-
-  -- a refused one leaves state and rows
-  pub refused-stays : (r : ReportMade) → List·Memᴰ r told → (T (accepts (r .after .reply)) → ⊥)
-      → (r .after .receiver ≡ r .before) × (r .after .rows ≡ r .rows)
-  refused-stays r listed refused =
-      ⊎-elim (λ t. absurd (refused (t .passed))) (λ t. (t .same-receiver, t .same-rows)) (along chain r listed .outcome)
-
   -- the report of slot t + T tells of message t
   pub told-at : (r : ReportMade) (t : ℕ) → List·Memᴰ r told → T (accepts (r .after .reply)) → r .before .due ≡ t + delayOf s
-      → Tells s t (r .after)
+      → ByVerdict s t (r .after)
   told-at r t listed ok e =
       let taken = taken-of r listed ok in
       let same : r .before ≡ waiting s (t + delayOf s) = λ i. record { settings = along chain r listed .settings i; due = e i } in
-      subst⁻¹ (Tells s t) (taken .moved)
-      (subst⁻¹ (λ (x : Receiver). Tells s t (movedOn x (rowOf (r .before .settings) (r .call)) (r .rows))) same
-      (tells s t (rowOf (r .before .settings) (r .call)) (r .rows)))
+      subst⁻¹ (ByVerdict s t) (taken .moved)
+      (subst⁻¹ (λ (x : Receiver). ByVerdict s t (movedOn x (rowOf (r .before .settings) (r .call)) (r .rows))) same
+      (by-verdict s t (rowOf (r .before .settings) (r .call)) (r .rows)))

@@ -15,10 +15,11 @@ use Rattle.code.proofs.Shape.{Shape}
 use Rattle.protocol.specs.Lengths.{rowLen, rowCount, receiverLen}
 use Rattle.protocol.specs.Rows.{joined}
 use Rattle.protocol.specs.Calls.{Reported, movedOn, receivedZeros}
-use Rattle.protocol.specs.TwoLists.{Report, ReportMade}
-use Rattle.protocol.specs.Claim.{accepts, NoCause}
+use Rattle.protocol.specs.TwoLists.{Report, ReportMade, rowOf}
+use Rattle.protocol.specs.Histories.{accepts}
+use Rattle.protocol.specs.Claim.{NoCause}
 use Rattle.protocol.proofs.Rings.{Ring, ring-start, ring-step, getD-joined}
-use Rattle.protocol.proofs.ReportRows.{rowOf, length-rowOf}
+use Rattle.protocol.proofs.ReportRows.{length-rowOf}
 use Rattle.protocol.proofs.ReportSteps.{Taken}
 use Rattle.protocol.proofs.ReportChain.{written, Finds, Chain, done, onward, again, some-rows, length-receivedZeros}
 use Rattle.protocol.proofs.Receipts.{callAt, call-of}

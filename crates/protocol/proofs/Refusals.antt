@@ -1,63 +1,30 @@
--- Demand 1, about the definitions: a refusal is made for the first listed cause that holds, exactly then, and changes nothing.
+-- Demand 1, proved of every call: `demand1`, whose statement is `Demand1` of specs/Refusals.antt.
 use mathlib.Core.Path.{_≡_, refl, sym, ap, _∙_, subst, subst⁻¹}
-use mathlib.Core.Bool.{Bool, true, false, cond, not, _&&_}
+use mathlib.Core.Bool.{Bool, true, false}
 use mathlib.Core.Logic.{_↔_}
 use mathlib.Core.List.{List, [], _∷_}
-use Prim.Native.Nat.{ℕ, _+_, _-_, _%_}
-use lib.Dec.{T, eqb, ltb}
-use lib.ListN.{length, drop}
+use Prim.Native.Nat.{ℕ}
+use lib.Dec.{T}
 use Rattle.code.specs.declared.settings.Settings.{Settings}
-use Rattle.code.specs.Settings.{accepted, delayOf}
 use Rattle.protocol.specs.declared.Sender.{Sender}
 use Rattle.protocol.specs.declared.Receiver.{Receiver}
 use Rattle.protocol.specs.declared.Cause.{Cause}
-use Rattle.protocol.specs.declared.Cause.the-variants.{BadSettings, BadLength, PastLastSlot, OtherMark, OtherSettings, OtherSlot}
 use Rattle.protocol.specs.declared.Answer.{Answer}
 use Rattle.protocol.specs.declared.Answer.the-variants as answer
 use Rattle.protocol.specs.declared.Reply.{Reply}
 use Rattle.protocol.specs.declared.Reply.the-variants as reply
-use Rattle.protocol.specs.Lengths.{lastSlot, messageLen, frameLen, senderLen, rowLen, rowCount, receiverLen}
-use Rattle.protocol.specs.Rows.{putRow}
-use Rattle.protocol.specs.Frame.{mark, five, slotBytes}
-use Rattle.protocol.specs.Verdict.{symbolSaid, isClash, isLost, someCodeword, verdict}
-use Rattle.protocol.specs.Causes.{numberOf, Found, nothing, cause, check, agree, openCause, sendCause, lossCause, frameCause}
-use Rattle.protocol.specs.Claim.{accepts}
-use Rattle.protocol.specs.Calls.{OpenedSender, openSenderOf, Sent, sendOf, OpenedReceiver, openReceiverOf, Reported, movedOn, lossOf, heardOf, noSettings}
+use Rattle.protocol.specs.Lengths.{senderLen, receiverLen}
+use Rattle.protocol.specs.Causes.{numberOf, Found, nothing, cause, check, Row, firstOf}
+use Rattle.protocol.specs.Causes.{openTable, sendTable, lossTable, frameTable, openCause, sendCause, lossCause, frameCause}
+use Rattle.protocol.specs.Calls.{noSettings, OpenedSender, openSenderOf, Sent, sendOf, OpenedReceiver, openReceiverOf}
+use Rattle.protocol.specs.Calls.{Reported, movedOn, lossOf, heardOf}
+use Rattle.protocol.specs.Histories.{accepts}
+use Rattle.protocol.specs.Refusals.{First, here, later, inOrder, Refuses, Demand1}
+use Rattle.protocol.proofs.NumberLaws.{answer-refused, reply-refused}
+pub use Rattle.protocol.proofs.NumberLaws.{number-tells}
 use Rattle.protocol.proofs.ReportRows.{moved-accepts}
 
--- the cause that a number stands for
-unfoldable numbered : ℕ → Cause
-numbered n =
-    cond (eqb n 1) BadSettings
-    (cond (eqb n 2) BadLength (cond (eqb n 3) PastLastSlot (cond (eqb n 4) OtherMark (cond (eqb n 5) OtherSettings OtherSlot))))
-
-numbered-back : (c : Cause) → numbered (numberOf c) ≡ c
-unfolding numbered
-numbered-back BadSettings = refl
-numbered-back BadLength = refl
-numbered-back PastLastSlot = refl
-numbered-back OtherMark = refl
-numbered-back OtherSettings = refl
-numbered-back OtherSlot = refl
-
--- document 01's number tells the cause
-pub number-tells : (a b : Cause) → numberOf a ≡ numberOf b → a ≡ b
-number-tells a b e = sym (numbered-back a) ∙ ap numbered e ∙ numbered-back b
-
--- a row of the table of causes: its condition, and the cause
-pub record Row : Type 0 where
-  pub holds : Bool
-  pub why : Cause
-
--- c is the first cause of the table that holds
-pub data First (c : Cause) : List Row → Type 0 where
-  here : {r : Row} {rs : List Row} → T (r .holds) → r .why ≡ c → First c (r ∷ rs)
-  later : {r : Row} {rs : List Row} → (T (r .holds) → ⊥) → First c rs → First c (r ∷ rs)
-
--- the table read from the top
-abbrev pub firstOf : List Row → Found
-firstOf [] = nothing
-firstOf (r ∷ rs) = check (r .holds) (r .why) (firstOf rs)
+-- ---- a table read from the top finds c exactly if c is the first that holds
 
 abbrev causeOr : Found → Cause → Cause
 causeOr nothing d = d
@@ -110,10 +77,6 @@ refused-first c rs a by = (
 
 -- ---- the openings
 
-abbrev pub openTable : Settings → ℕ → List ℕ → List Row
-openTable s size rows =
-    record { holds = not (accepted s); why = BadSettings } ∷ record { holds = not (eqb (length rows) size); why = BadLength } ∷ []
-
 module _ (s : Settings) (rows : List ℕ) where
   opened-sender-by : (f : Found) → openCause s (senderLen s) rows ≡ f → openSenderOf s rows .answer ≡ answerBy f
   unfolding openSenderOf
@@ -149,17 +112,6 @@ module _ (s : Settings) (rows : List ℕ) where
   open-receiver-unchanged c h = rw (first-found c (openTable s (receiverLen s) rows) h, openReceiverOf)
 
 -- ---- send
-
-abbrev pub sendTable : Sender → List ℕ → List ℕ → List ℕ → List Row
-sendTable x rows message frame =
-    record { holds = not (accepted (x .settings)); why = BadSettings }
-    ∷ record {
-      holds = not (eqb (length rows) (senderLen (x .settings)) && eqb (length message) (messageLen (x .settings))
-          && eqb (length frame) (frameLen (x .settings)));
-      why = BadLength;
-    }
-    ∷ record { holds = ltb lastSlot (x .due); why = PastLastSlot }
-    ∷ []
 
 module _ (x : Sender) (rows message frame : List ℕ) where
   sent-by : (f : Found) → sendCause x rows message frame ≡ f → sendOf x rows message frame .answer ≡ answerBy f
@@ -203,16 +155,6 @@ reply-first : (c : Cause) (rs : List Row) (a : Reply) → refusalOf a ≡ firstO
     → (a ≡ reply.Refused c) ↔ First c rs
 reply-first c rs a by back = ((λ e. found-first c rs (sym by ∙ ap refusalOf e)), λ h. back (first-found c rs h))
 
-abbrev pub lossTable : Receiver → List ℕ → List ℕ → List Row
-lossTable x rows message =
-    record { holds = not (accepted (x .settings)); why = BadSettings }
-    ∷ record {
-      holds = not (eqb (length rows) (receiverLen (x .settings)) && eqb (length message) (messageLen (x .settings)));
-      why = BadLength;
-    }
-    ∷ record { holds = ltb lastSlot (x .due); why = PastLastSlot }
-    ∷ []
-
 module _ (x : Receiver) (rows message : List ℕ) where
   loss-by : (f : Found) → lossCause x rows message ≡ f → refusalOf (lossOf x rows message .reply) ≡ f
   unfolding lossOf
@@ -230,20 +172,6 @@ module _ (x : Receiver) (rows message : List ℕ) where
   loss-refused c =
       reply-first c (lossTable x rows message) (lossOf x rows message .reply) (loss-by (lossCause x rows message) refl)
       (λ e. ap (λ (r : Reported). r .reply) (loss-unchanged c (found-first c (lossTable x rows message) e)))
-
-abbrev pub frameTable : Receiver → List ℕ → List ℕ → List ℕ → List Row
-frameTable x rows frame message =
-    record { holds = not (accepted (x .settings)); why = BadSettings }
-    ∷ record {
-      holds = not (eqb (length rows) (receiverLen (x .settings)) && eqb (length frame) (frameLen (x .settings))
-          && eqb (length message) (messageLen (x .settings)));
-      why = BadLength;
-    }
-    ∷ record { holds = ltb lastSlot (x .due); why = PastLastSlot }
-    ∷ record { holds = not (agree 5 frame (mark 1)); why = OtherMark }
-    ∷ record { holds = not (agree 5 (drop 5 frame) (five (x .settings))); why = OtherSettings }
-    ∷ record { holds = not (agree 4 (drop 10 frame) (slotBytes (x .due))); why = OtherSlot }
-    ∷ []
 
 module _ (x : Receiver) (rows frame message : List ℕ) where
   heard-by : (f : Found) → frameCause x rows frame message ≡ f → refusalOf (heardOf x rows frame message .reply) ≡ f
@@ -263,3 +191,49 @@ module _ (x : Receiver) (rows frame message : List ℕ) where
       reply-first c (frameTable x rows frame message) (heardOf x rows frame message .reply)
       (heard-by (frameCause x rows frame message) refl)
       (λ e. ap (λ (r : Reported). r .reply) (frame-unchanged c (found-first c (frameTable x rows frame message) e)))
+
+-- ---- demand 1
+
+-- from what a call says to its number
+refuses : {table : List Row} {number : ℕ} {Says : Cause → Type 0} {Stays : Type 0} → T (inOrder 0 table)
+    → ((c : Cause) → (number ≡ numberOf c) ↔ Says c) → ((c : Cause) → Says c ↔ First c table) → ((c : Cause) → First c table → Stays)
+    → Refuses table number Stays
+refuses order says first stays = record {
+  order = order;
+  first = λ c. (λ n. first c .0 (says c .0 n), λ f. says c .1 (first c .1 f));
+  stays = λ c n. stays c (first c .0 (says c .0 n));
+}
+
+-- what stays, from what a refused call comes to
+send-stays : {x : Sender} {rows frame : List ℕ} {c : Cause} {r : Sent}
+    → r ≡ record { answer = answer.Refused c; sender = x; rows = rows; frame = frame }
+    → (r .sender ≡ x) × (r .rows ≡ rows) × (r .frame ≡ frame)
+send-stays e = (ap (λ (r : Sent). r .sender) e, ap (λ (r : Sent). r .rows) e, ap (λ (r : Sent). r .frame) e)
+
+report-stays : {x : Receiver} {rows message : List ℕ} {c : Cause} {r : Reported}
+    → r ≡ record { reply = reply.Refused c; receiver = x; rows = rows; message = message }
+    → (r .receiver ≡ x) × (r .rows ≡ rows) × (r .message ≡ message)
+report-stays e = (ap (λ (r : Reported). r .receiver) e, ap (λ (r : Reported). r .rows) e, ap (λ (r : Reported). r .message) e)
+
+pub demand1 : Demand1
+demand1 = record {
+  open-sender = λ s rows.
+      refuses tt (answer-refused (openSenderOf s rows .answer)) (open-sender-refused s rows)
+      (λ c f.
+      let e = open-sender-unchanged s rows c f in
+      (ap (λ (r : OpenedSender). r .sender) e, ap (λ (r : OpenedSender). r .rows) e));
+  open-receiver = λ s rows.
+      refuses tt (answer-refused (openReceiverOf s rows .answer)) (open-receiver-refused s rows)
+      (λ c f.
+      let e = open-receiver-unchanged s rows c f in
+      (ap (λ (r : OpenedReceiver). r .receiver) e, ap (λ (r : OpenedReceiver). r .rows) e));
+  send = λ x rows message frame.
+      refuses tt (answer-refused (sendOf x rows message frame .answer)) (send-refused x rows message frame)
+      (λ c f. send-stays (send-unchanged x rows message frame c f));
+  loss = λ x rows message.
+      refuses tt (reply-refused (lossOf x rows message .reply)) (loss-refused x rows message)
+      (λ c f. report-stays (loss-unchanged x rows message c f));
+  heard = λ x rows frame message.
+      refuses tt (reply-refused (heardOf x rows frame message .reply)) (frame-refused x rows frame message)
+      (λ c f. report-stays (frame-unchanged x rows frame message c f));
+}

@@ -1,21 +1,20 @@
 -- When a report meets no cause.
-use mathlib.Core.Path.{_≡_, refl}
-use mathlib.Core.Bool.{Bool, not, _&&_}
+use mathlib.Core.Path.{_≡_}
+use mathlib.Core.Bool.{Bool, _&&_}
 use mathlib.Core.List.{List}
 use Prim.Native.Nat.{ℕ, _+_, _≤_}
 use native.Mathlib.Omega.{arith}
-use lib.Dec.{T, eqb, ltb, eqb→eq}
+use lib.Dec.{T, eqb, eqb→eq}
 use lib.ListN.{length, take, drop}
 use borrow.Author.Tests.{ltb-false, le-ltb, eq-eqb}
 use Rattle.galois.proofs.Cases.{and-left, and-right}
 use Rattle.code.specs.Settings.{accepted}
 use Rattle.protocol.specs.declared.Receiver.{Receiver}
-use Rattle.protocol.specs.declared.Cause.{Cause}
 use Rattle.protocol.specs.declared.Cause.the-variants.{BadSettings, BadLength, PastLastSlot, OtherMark, OtherSettings, OtherSlot}
 use Rattle.protocol.specs.Lengths.{lastSlot, messageLen, bodyLen, frameLen, receiverLen}
 use Rattle.protocol.specs.Frame.{mark, five, slotBytes, header}
-use Rattle.protocol.specs.Causes.{Found, nothing, check, agree, lossCause, frameCause}
-use Rattle.protocol.proofs.CauseTables.{check-nothing, passes, fails}
+use Rattle.protocol.specs.Causes.{nothing, agree, lossTable, frameTable, lossCause, frameCause}
+use Rattle.protocol.proofs.CauseTables.{none-holds, passes, fails}
 use Rattle.protocol.proofs.HeaderBytes.{tests-header, header-mark, header-five, header-slot}
 
 -- two tests of lengths in one, and three
@@ -39,16 +38,13 @@ module _ (x : Receiver) (rows message : List ℕ) where
   unfolding lossCause
   loss-open e =
       let lengths : Bool = eqb (length rows) (receiverLen (x .settings)) && eqb (length message) (messageLen (x .settings)) in
-      let past : Found = check (ltb lastSlot (x .due)) PastLastSlot nothing in
-      let a = check-nothing (not (accepted (x .settings))) BadSettings (check (not lengths) BadLength past) e in
-      let b = check-nothing (not lengths) BadLength past (a .1) in
-      let c = check-nothing (ltb lastSlot (x .due)) PastLastSlot nothing (b .1) in
-      let exact = two-equal (length rows) (receiverLen (x .settings)) (length message) (messageLen (x .settings)) (passes lengths (b .0)) in
+      let none = none-holds (lossTable x rows message) e in
+      let exact = two-equal (length rows) (receiverLen (x .settings)) (length message) (messageLen (x .settings)) (passes lengths (none BadLength)) in
       record {
-        settings = passes (accepted (x .settings)) (a .0);
+        settings = passes (accepted (x .settings)) (none BadSettings);
         rows-exact = exact .0;
         message-exact = exact .1;
-        in-time = ltb-false lastSlot (x .due) (c .0);
+        in-time = ltb-false lastSlot (x .due) (none PastLastSlot);
       }
 
   pub loss-nothing : LossOpen → lossCause x rows message ≡ nothing
@@ -80,28 +76,19 @@ module _ (x : Receiver) (rows message : List ℕ) where
         let marked : Bool = agree 5 frame (mark 1) in
         let fived : Bool = agree 5 (drop 5 frame) (five (x .settings)) in
         let slotted : Bool = agree 4 (drop 10 frame) (slotBytes (x .due)) in
-        let slots : Found = check (not slotted) OtherSlot nothing in
-        let fives : Found = check (not fived) OtherSettings slots in
-        let marks : Found = check (not marked) OtherMark fives in
-        let past : Found = check (ltb lastSlot (x .due)) PastLastSlot marks in
-        let a = check-nothing (not (accepted (x .settings))) BadSettings (check (not lengths) BadLength past) e in
-        let b = check-nothing (not lengths) BadLength past (a .1) in
-        let c = check-nothing (ltb lastSlot (x .due)) PastLastSlot marks (b .1) in
-        let d = check-nothing (not marked) OtherMark fives (c .1) in
-        let f = check-nothing (not fived) OtherSettings slots (d .1) in
-        let g = check-nothing (not slotted) OtherSlot nothing (f .1) in
+        let none = none-holds (frameTable x rows frame message) e in
         let exact
         = three-equal (length rows) (receiverLen (x .settings)) (length frame) (frameLen (x .settings)) (length message)
-        (messageLen (x .settings)) (passes lengths (b .0)) in
+        (messageLen (x .settings)) (passes lengths (none BadLength)) in
         let long : length frame ≡ 14 + bodyLen (x .settings) = exact .1 in
         record {
-          settings = passes (accepted (x .settings)) (a .0);
+          settings = passes (accepted (x .settings)) (none BadSettings);
           rows-exact = exact .0;
           frame-exact = long;
           message-exact = exact .2;
-          in-time = ltb-false lastSlot (x .due) (c .0);
+          in-time = ltb-false lastSlot (x .due) (none PastLastSlot);
           headed = tests-header (x .settings) (x .due) frame (omega arith)
-              (passes marked (d .0)) (passes fived (f .0)) (passes slotted (g .0));
+              (passes marked (none OtherMark)) (passes fived (none OtherSettings)) (passes slotted (none OtherSlot));
         }
 
     pub frame-nothing : FrameOpen → frameCause x rows frame message ≡ nothing

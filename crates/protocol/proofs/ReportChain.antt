@@ -7,7 +7,6 @@ use native.Mathlib.Nat.{mod-lt}
 use native.Mathlib.Omega.{arith}
 use lib.Dec.{T}
 use lib.ListN.{length, length-replicate}
-use borrow.Author.Tests.{eq-eqb}
 use Rattle.code.specs.declared.settings.Settings.{Settings}
 use Rattle.code.specs.Settings.{accepted}
 use Rattle.code.proofs.Shape.{Shape, shape}
@@ -15,12 +14,11 @@ use Rattle.protocol.specs.declared.Receiver.{Receiver}
 use Rattle.protocol.specs.declared.Answer.the-variants as answer
 use Rattle.protocol.specs.Lengths.{bodyLen, rowLen, rowCount, receiverLen}
 use Rattle.protocol.specs.Rows.{putRow, joined}
-use Rattle.protocol.specs.Causes.{nothing, openCause}
 use Rattle.protocol.specs.Calls.{Reported, movedOn, receivedZeros, openReceiverOf}
-use Rattle.protocol.specs.TwoLists.{Report, reportOf, ReportMade, reports}
+use Rattle.protocol.specs.TwoLists.{Report, reportOf, ReportMade, reports, rowOf}
 use Rattle.protocol.proofs.Rings.{length-putRow, length-joined}
 use Rattle.protocol.proofs.CauseTables.{open-nothing}
-use Rattle.protocol.proofs.ReportRows.{rowOf, length-rowOf}
+use Rattle.protocol.proofs.ReportRows.{length-rowOf}
 use Rattle.protocol.proofs.ReportSteps.{made, Taken, Stayed, step}
 
 -- the receiver with slot d due
@@ -92,13 +90,6 @@ module _ (s : Settings) (ok : T (accepted s)) where
       (chain (d + 1) (written s d c rows) cs
       (length-written s d c rows (shape s ok) exact (length-rowOf s d c (t .uncaused)))))
       (λ t. chain-stayed d rows c cs exact t (chain d rows cs exact)) (step (waiting s d) rows ok exact c)
-
-  -- the same of any receiver with these settings
-  pub chain-of : (x : Receiver) (rows : List ℕ) (calls : List Report) → x .settings ≡ s → length rows ≡ receiverLen s
-      → Chain s (x .due) rows (reports x rows calls)
-  chain-of x rows calls e exact =
-      let same : x ≡ waiting s (x .due) = λ i. record { settings = e i; due = x .due } in
-      subst⁻¹ (λ (y : Receiver). Chain s (x .due) rows (reports y rows calls)) same (chain (x .due) rows calls exact)
 
   -- ---- from the opening on
 

@@ -1,11 +1,11 @@
 -- What an accepted report writes and answers: a row of the exact length, and never a refusal.
 use mathlib.Core.Path.{_≡_}
 use mathlib.Core.Bool.{Bool, true, false, cond}
-use mathlib.Core.List.{List, _∷_}
+use mathlib.Core.List.{List}
 use Prim.Native.Nat.{ℕ, _+_, _-_, _%_}
 use native.Mathlib.Omega.{arith}
 use lib.Dec.{T, ltb}
-use lib.ListN.{length, drop, replicate, length-drop, length-replicate}
+use lib.ListN.{length, drop, length-drop, length-replicate}
 use Rattle.code.specs.declared.settings.Settings.{Settings}
 use Rattle.code.specs.Settings.{delayOf}
 use Rattle.protocol.specs.declared.Receiver.{Receiver}
@@ -15,15 +15,11 @@ use Rattle.protocol.specs.Lengths.{bodyLen, frameLen, rowLen, rowCount}
 use Rattle.protocol.specs.Rows.{putRow}
 use Rattle.protocol.specs.Verdict.{noneFits, twoDiffer, verdict}
 use Rattle.protocol.specs.Calls.{messageDue, movedOn}
-use Rattle.protocol.specs.TwoLists.{Report, heard, missed}
-use Rattle.protocol.specs.Claim.{accepts, NoCause}
+use Rattle.protocol.specs.TwoLists.{Report, heard, missed, rowOf}
+use Rattle.protocol.specs.Histories.{accepts}
+use Rattle.protocol.specs.Claim.{NoCause}
 
--- the row that an accepted report writes
-unfoldable pub rowOf : Settings → Report → List ℕ
-rowOf s (heard frame message) = 1 ∷ drop 14 frame
-rowOf s (missed message) = replicate (rowLen s) 0
-
--- it has the rows' length
+-- the row that an accepted report writes has the rows' length
 pub length-rowOf : (s : Settings) (due : ℕ) (call : Report) → NoCause s due call → length (rowOf s call) ≡ rowLen s
 unfolding rowOf rowLen frameLen
 length-rowOf s due (heard frame message) h =

@@ -13,10 +13,11 @@ use Rattle.protocol.specs.declared.Reply.the-variants as reply
 use Rattle.protocol.specs.Lengths.{rowLen, receiverLen}
 use Rattle.protocol.specs.Causes.{Found, nothing, cause, lossCause, frameCause}
 use Rattle.protocol.specs.Calls.{Reported, movedOn, lossOf, heardOf}
-use Rattle.protocol.specs.TwoLists.{Report, heard, missed, reportOf, ReportMade}
-use Rattle.protocol.specs.Claim.{accepts, NoCause}
+use Rattle.protocol.specs.TwoLists.{Report, heard, missed, reportOf, ReportMade, rowOf}
+use Rattle.protocol.specs.Histories.{accepts}
+use Rattle.protocol.specs.Claim.{NoCause}
 use Rattle.protocol.proofs.ReportCauses.{loss-open, loss-nothing, frame-open, frame-nothing}
-use Rattle.protocol.proofs.ReportRows.{rowOf, moved-accepts}
+use Rattle.protocol.proofs.ReportRows.{moved-accepts}
 
 -- the report of a call
 abbrev pub made : Receiver → List ℕ → Report → ReportMade

@@ -14,9 +14,9 @@ use Rattle.protocol.specs.Frame.{header, sentSymbol}
 use Rattle.protocol.specs.Codewords.{source}
 use Rattle.protocol.specs.Calls.{OpenedSender, openSenderOf}
 use Rattle.protocol.specs.TwoLists.{Send, SendMade, sends}
-use Rattle.protocol.specs.Claim.{Bytes, SentAs, SendTaken}
+use Rattle.protocol.specs.Histories.{Bytes, SentAs, messageAt}
+use Rattle.protocol.specs.Claim.{SendTaken}
 use Rattle.protocol.proofs.Sending.{opened-sender}
-use Rattle.protocol.proofs.Histories.{messageAt}
 use Rattle.protocol.proofs.Slots as slots
 use Rattle.protocol.proofs.SentLengths as lengths
 use Rattle.protocol.proofs.SenderRows.{Remembers, Follows, remembers-start, remembers}

@@ -22,7 +22,7 @@ use Rattle.protocol.specs.Calls.{Sent, sendOf}
 use Rattle.protocol.specs.TwoLists.{Send, SendMade, sends}
 use Rattle.protocol.proofs.Rings.{Ring, ring-start, ring-step}
 use Rattle.protocol.proofs.Sending.{SendCase, taken, refused, send-case}
-use Rattle.protocol.proofs.Histories.{madeOf, at-members}
+use Rattle.protocol.proofs.Along.{madeOf, at-members}
 use Rattle.protocol.proofs.SentLengths.{Kept, kept-step, some-row}
 
 -- byte j of the message of slot σ - R, and 0 before slot 0

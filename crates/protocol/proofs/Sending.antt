@@ -1,11 +1,11 @@
 -- A send: the conditions under which no cause holds, and what comes of it then and otherwise. The opening that comes before.
 use mathlib.Core.Path.{_≡_, refl, sym, ap, _∙_}
-use mathlib.Core.Bool.{Bool, not, _&&_}
+use mathlib.Core.Bool.{Bool, _&&_}
 use mathlib.Core.Logic.{_↔_}
 use mathlib.Core.List.{List}
 use Prim.Native.Nat.{ℕ, _+_, _-_, _%_, _≤_}
 use native.Mathlib.Omega.{arith}
-use lib.Dec.{T, eqb, ltb, eqb→eq}
+use lib.Dec.{T, eqb, eqb→eq}
 use lib.ListN.{length, replicate}
 use borrow.Author.Tests.{ltb-false, le-ltb, eq-eqb}
 use Rattle.galois.proofs.Cases.{and-left, and-right}
@@ -16,11 +16,11 @@ use Rattle.protocol.specs.declared.Cause.{Cause}
 use Rattle.protocol.specs.declared.Cause.the-variants.{BadSettings, BadLength, PastLastSlot}
 use Rattle.protocol.specs.declared.Answer.the-variants as answer
 use Rattle.protocol.specs.Lengths.{lastSlot, messageLen, frameLen, senderLen}
-use Rattle.protocol.specs.Rows.{putRow}
 use Rattle.protocol.specs.Frame.{frameOf}
-use Rattle.protocol.specs.Causes.{Found, nothing, cause, sendCause}
+use Rattle.protocol.specs.Rows.{putRow}
+use Rattle.protocol.specs.Causes.{Found, nothing, cause, sendTable, sendCause}
 use Rattle.protocol.specs.Calls.{Sent, openSenderOf, sendOf}
-use Rattle.protocol.proofs.CauseTables.{check-nothing, passes, fails, open-nothing}
+use Rattle.protocol.proofs.CauseTables.{none-holds, passes, fails, open-nothing}
 
 -- ---- the opening
 
@@ -75,16 +75,14 @@ module _ (x : Sender) (rows message frame : List ℕ) where
       let a : Bool = eqb (length rows) (senderLen s) in
       let b : Bool = eqb (length message) (messageLen s) in
       let c : Bool = eqb (length frame) (frameLen s) in
-      let first = check-nothing (not (accepted s)) BadSettings _ e in
-      let second = check-nothing (not (a && b && c)) BadLength _ (first .1) in
-      let third = check-nothing (ltb lastSlot (x .due)) PastLastSlot nothing (second .1) in
-      let lengths : T (a && b && c) = passes (a && b && c) (second .0) in
+      let none = none-holds (sendTable x rows message frame) e in
+      let lengths : T (a && b && c) = passes (a && b && c) (none BadLength) in
       record {
-        settled = passes (accepted s) (first .0);
+        settled = passes (accepted s) (none BadSettings);
         rows-exact = eqb→eq (length rows) (senderLen s) (and-left a b (and-left (a && b) c lengths));
         message-exact = eqb→eq (length message) (messageLen s) (and-right a b (and-left (a && b) c lengths));
         frame-exact = eqb→eq (length frame) (frameLen s) (and-right (a && b) c lengths);
-        in-time = ltb-false lastSlot (x .due) (third .0);
+        in-time = ltb-false lastSlot (x .due) (none PastLastSlot);
       }
 
 -- a send is accepted, or refused with a cause

@@ -13,15 +13,15 @@ use Rattle.code.specs.Settings.{accepted, nOf}
 use Rattle.code.proofs.Shape.{Shape, shape}
 use Rattle.galois.proofs.ByIndex.{length-table}
 use Rattle.protocol.specs.declared.Sender.{Sender}
-use Rattle.protocol.specs.declared.Answer.the-variants as answer
 use Rattle.protocol.specs.Lengths.{lastSlot, messageLen, bodyLen, frameLen, senderLen}
 use Rattle.protocol.specs.Frame.{mark, five, slotBytes, header, bodyOf, frameOf}
 use Rattle.protocol.specs.Calls.{Sent, sendOf}
 use Rattle.protocol.specs.TwoLists.{Send, SendMade, sends}
-use Rattle.protocol.specs.Claim.{Bytes, SentAs, SendTaken}
+use Rattle.protocol.specs.Histories.{Bytes, SentAs, isAccepted, pickedAt, messageAt}
+use Rattle.protocol.specs.Claim.{SendTaken}
 use Rattle.protocol.proofs.Rings.{length-putRow}
 use Rattle.protocol.proofs.Sending.{SendCase, taken, refused, send-case, send-taken, taken-case}
-use Rattle.protocol.proofs.Histories.{isAccepted, pickedAt, messageAt, member-made, at-members}
+use Rattle.protocol.proofs.Along.{member-made, at-members}
 
 -- ---- the frame's length
 

@@ -10,17 +10,9 @@ use native.Mathlib.Omega.{arith}
 use lib.Dec.{T}
 use Rattle.code.specs.declared.settings.Settings.{Settings}
 use Rattle.protocol.specs.TwoLists.{Report, heard, missed, ReportMade}
-use Rattle.protocol.specs.Claim.{accepts, ofLoss, lostAt}
+use Rattle.protocol.specs.Histories.{accepts, ReportedAs, Heard, ofLoss, lostAt}
 use Rattle.protocol.proofs.ReportChain.{Chain, done, onward, again}
 use Rattle.protocol.proofs.Receipts.{callAt, lossIn, call-of, lost-call}
-
--- slot τ has this accepted report
-pub record ReportedAs (told : List ReportMade) (τ : ℕ) (call : Report) : Type 0 where
-  pub report : ReportMade
-  pub listed : List·Memᴰ report told
-  pub passed : T (accepts (report .after .reply))
-  pub slot : report .before .due ≡ τ
-  pub called : report .call ≡ call
 
 -- the same with one more report in front
 as-later : (x : ReportMade) (xs : List ReportMade) (τ : ℕ) → (call : Report) × ReportedAs xs τ call
@@ -62,28 +54,10 @@ reported (again {m = x} {rest = xs} h t rest) r m ok τ low high =
     ⊎-elim (λ same. absurd (t .failed (rw same at ok))) (λ later. as-later x xs τ (reported rest r later ok τ low high))
     (List·Memᴰ·cases-cons m)
 
--- slot τ was heard, by an accepted report of this frame
-pub record Heard (told : List ReportMade) (τ : ℕ) (frame : List ℕ) : Type 0 where
-  pub message : List ℕ
-  pub by : ReportedAs told τ (heard frame message)
-
--- an accepted report that is listed is the one of its slot
-pub member : {told : List ReportMade} (r : ReportMade) (call : Report) → List·Memᴰ r told → r .call ≡ call → T (accepts (r .after .reply))
-    → ReportedAs told (r .before .due) call
-member r call listed e ok = record { report = r; listed = listed; passed = ok; slot = refl; called = e }
-
 module _ {s : Settings} {d : ℕ} {rows : List ℕ} {told : List ReportMade} (chain : Chain s d rows told) where
   pub call-as : (τ : ℕ) (call : Report) → ReportedAs told τ call → callAt told τ ≡ some call
   call-as τ call a =
       ap (callAt told) (sym (a .slot)) ∙ call-of chain (a .report) (a .listed) (a .passed) ∙ ap {B = Option Report} some (a .called)
-
-  -- two accepted reports of one slot are one report
-  pub one-report : (τ : ℕ) (c₁ c₂ : Report) → ReportedAs told τ c₁ → ReportedAs told τ c₂ → c₁ ≡ c₂
-  one-report τ c₁ c₂ a b = cc (call-as τ c₁ a, call-as τ c₂ b)
-
-  -- so their frames are equal
-  pub one-frame : (τ : ℕ) (f₁ f₂ : List ℕ) → Heard told τ f₁ → Heard told τ f₂ → f₁ ≡ f₂
-  one-frame τ f₁ f₂ a b = cc (one-report τ (heard f₁ (a .message)) (heard f₂ (b .message)) (a .by) (b .by))
 
   pub lost-as : (τ : ℕ) (call : Report) → ReportedAs told τ call → lostAt told τ ≡ ofLoss call
   lost-as τ call a = lost-call chain τ ∙ ap lossIn (call-as τ call a)
@@ -91,16 +65,6 @@ module _ {s : Settings} {d : ℕ} {rows : List ℕ} {told : List ReportMade} (ch
   -- a slot that was heard was not lost
   pub heard-kept : (τ : ℕ) (frame : List ℕ) → Heard told τ frame → lostAt told τ ≡ false
   heard-kept τ frame h = lost-as τ (heard frame (h .message)) (h .by)
-
-  -- the slot of an accepted report of a loss was lost
-  pub lost-at : (r : ReportMade) (m : List ℕ) → List·Memᴰ r told → r .call ≡ missed m → T (accepts (r .after .reply))
-      → T (lostAt told (r .before .due))
-  lost-at r m listed e ok = rw (lost-as (r .before .due) (missed m) (member r (missed m) listed e ok)) tt
-
-  -- and that of an accepted report of a frame was not
-  pub heard-not-lost : (r : ReportMade) (f m : List ℕ) → List·Memᴰ r told → r .call ≡ heard f m → T (accepts (r .after .reply))
-      → lostAt told (r .before .due) ≡ false
-  heard-not-lost r f m listed e ok = lost-as (r .before .due) (heard f m) (member r (heard f m) listed e ok)
 
   either-way : (τ : ℕ) (call : Report) → ReportedAs told τ call → T (lostAt told τ) ⊎ ((f : List ℕ) × Heard told τ f)
   either-way τ (heard f m) a = inr (f, record { message = m; by = a })

@@ -12,11 +12,10 @@ use Rattle.code.proofs.Shape.{Shape}
 use Rattle.protocol.specs.Lengths.{rowLen, rowCount}
 use Rattle.protocol.specs.Verdict.{rowAt}
 use Rattle.protocol.specs.Calls.{receivedZeros}
-use Rattle.protocol.specs.TwoLists.{Report, ReportMade}
-use Rattle.protocol.specs.Claim.{accepts}
-use Rattle.protocol.proofs.ReportRows.{rowOf}
+use Rattle.protocol.specs.TwoLists.{Report, ReportMade, rowOf}
+use Rattle.protocol.specs.Histories.{accepts, ReportedAs}
 use Rattle.protocol.proofs.ReportChain.{Chain}
-use Rattle.protocol.proofs.SlotReports.{ReportedAs, call-as, reported}
+use Rattle.protocol.proofs.SlotReports.{call-as, reported}
 use Rattle.protocol.proofs.ReceivedRows.{openedRows, rowIn, rowOfSlot, history, history-early, history-slot, rows-say}
 
 -- r is the accepted report of slot t + T, which tells of message t

@@ -12,9 +12,9 @@ use Rattle.protocol.specs.declared.Sender.{Sender}
 use Rattle.protocol.specs.declared.Answer.the-variants as answer
 use Rattle.protocol.specs.Calls.{Sent, sendOf}
 use Rattle.protocol.specs.TwoLists.{Send, SendMade, sends}
-use Rattle.protocol.specs.Claim.{SentAs}
+use Rattle.protocol.specs.Histories.{SentAs, isAccepted, pickedAt, messageAt}
 use Rattle.protocol.proofs.Sending.{SendCase, taken, refused, send-case}
-use Rattle.protocol.proofs.Histories.{isAccepted, pickedAt, messageAt, madeOf, at-members}
+use Rattle.protocol.proofs.Along.{madeOf, at-members}
 
 -- ---- the slot due never falls
 

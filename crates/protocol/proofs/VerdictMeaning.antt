@@ -1,115 +1,58 @@
--- Demand 2, with "there is a word" and "for all words": what the receiver's verdict on message t means.
-use mathlib.Core.Path.{_≡_, refl, sym, ap, ap₂, _∙_, subst, subst⁻¹}
-use mathlib.Core.Bool.{Bool, true, false, cond, not}
+-- What the receiver's verdict on message t means, in the words of specs/Meaning.antt.
+use mathlib.Core.Path.{_≡_, refl, sym, ap, ap₂, _∙_, subst⁻¹}
+use mathlib.Core.Bool.{Bool, true, false, cond}
 use mathlib.Core.Logic.{_↔_}
 use mathlib.Core.List.{List}
 use Prim.Native.Nat.{ℕ, _+_, _*_, _/_, _%_, _<_}
-use lib.Dec.{T, T-not, eqb, eqb-refl}
+use native.Mathlib.Omega.{arith}
+use lib.Dec.{T}
 use lib.Arith.{digits-lt, digits-div, digits-mod}
-use lib.ListN.{getD}
+use lib.ListN.{getD, length, replicate, length-replicate}
 use Rattle.galois.specs.Bounded.{any}
 use Rattle.galois.proofs.Cases.{any-at, some-any}
 use Rattle.code.specs.declared.settings.Settings.{Settings}
-use Rattle.code.specs.Fitting.{fits}
+use Rattle.code.specs.Fitting.{Arrived}
 use Rattle.code.specs.Settings.{kOf}
-use Rattle.code.specs.Word.{wordAt}
-use Rattle.galois.proofs.ByIndex.{getD-table}
+use Rattle.galois.proofs.ByIndex.{length-table, getD-table}
 use Rattle.elimination.specs.declared.lane.Symbol.{Symbol}
 use Rattle.elimination.specs.declared.lane.Symbol.the-variants as symbol
-use Rattle.elimination.specs.Values.{values, said}
-use Rattle.elimination.proofs.ValueLaws.{Bytes, said-clash, clash-said, said-lost, lost-said, whole-said}
+use Rattle.elimination.proofs.ValueLaws.{said-clash, clash-said, said-lost, lost-said, whole-said}
 use Rattle.protocol.specs.declared.Reply.{Reply}
 use Rattle.protocol.specs.declared.Reply.the-variants as reply
 use Rattle.protocol.specs.Lengths.{messageLen}
 use Rattle.protocol.specs.Verdict.{arrived, symbolSaid, isClash, isLost, wholeByte, someCodeword, noneFits, twoDiffer, verdict, sharedBytes, bufferOf}
+use Rattle.protocol.specs.Numbers.{replyNumber}
+use Rattle.protocol.specs.Meaning.{Fitting, SomeClash, SomeLost, Share, AllShare}
 
 -- ---- one of three, by two tests
 
 abbrev byTests : Bool → Bool → Reply
 byTests a b = cond a reply.Clash (cond b reply.Lost reply.Whole)
 
--- the replies told apart
-abbrev place : Reply → ℕ
-place (reply.Refused c) = 0
-place reply.NoneYet = 1
-place reply.Whole = 2
-place reply.Lost = 3
-place reply.Clash = 4
+-- two replies with other numbers
+unlike : {x y : Reply} → (replyNumber x ≡ replyNumber y → ⊥) → {A : Type 0} → x ≡ y → A
+unlike n e = absurd (n (ap replyNumber e))
 
-apart-numbers : (m n : ℕ) → m ≡ n → T (not (eqb m n)) → ⊥
-apart-numbers m n e h = T-not (eqb m n) h (subst (λ (k : ℕ). T (eqb m k)) e (eqb-refl m))
+-- the first test passes; else the second; else neither
+first : (a b : Bool) → (byTests a b ≡ reply.Clash) ↔ T a
+first true b = (λ e. tt, λ h. refl)
+first false true = (unlike (λ n. omega arith), λ h. absurd h)
+first false false = (unlike (λ n. omega arith), λ h. absurd h)
 
-first-clash : (a b : Bool) → byTests a b ≡ reply.Clash → T a
-first-clash true b e = tt
-first-clash false true e = absurd (apart-numbers 3 4 (ap place e) tt)
-first-clash false false e = absurd (apart-numbers 2 4 (ap place e) tt)
+second : (a b : Bool) → (byTests a b ≡ reply.Lost) ↔ ((T a → ⊥) × T b)
+second true b = (unlike (λ n. omega arith), λ x. absurd (x .0 tt))
+second false true = (λ e. ((λ h. h), tt), λ x. refl)
+second false false = (unlike (λ n. omega arith), λ x. absurd (x .1))
 
-first-is : (a b : Bool) → T a → byTests a b ≡ reply.Clash
-first-is true b h = refl
-first-is false b h = absurd h
-
-second-lost : (a b : Bool) → byTests a b ≡ reply.Lost → T b
-second-lost true b e = absurd (apart-numbers 4 3 (ap place e) tt)
-second-lost false true e = tt
-second-lost false false e = absurd (apart-numbers 2 3 (ap place e) tt)
-
-second-not : (a b : Bool) → byTests a b ≡ reply.Lost → T a → ⊥
-second-not true b e h = apart-numbers 4 3 (ap place e) tt
-second-not false b e h = h
-
-second-is : (a b : Bool) → (T a → ⊥) → T b → byTests a b ≡ reply.Lost
-second-is true b n h = absurd (n tt)
-second-is false true n h = refl
-second-is false false n h = absurd h
-
-third-not-first : (a b : Bool) → byTests a b ≡ reply.Whole → T a → ⊥
-third-not-first true b e h = apart-numbers 4 2 (ap place e) tt
-third-not-first false b e h = h
-
-third-not-second : (a b : Bool) → byTests a b ≡ reply.Whole → T b → ⊥
-third-not-second true b e h = apart-numbers 4 2 (ap place e) tt
-third-not-second false true e h = apart-numbers 3 2 (ap place e) tt
-third-not-second false false e h = h
-
-third-is : (a b : Bool) → (T a → ⊥) → (T b → ⊥) → byTests a b ≡ reply.Whole
-third-is true b n m = absurd (n tt)
-third-is false true n m = absurd (m tt)
-third-is false false n m = refl
+third : (a b : Bool) → (byTests a b ≡ reply.Whole) ↔ ((T a → ⊥) × (T b → ⊥))
+third true b = (unlike (λ n. omega arith), λ x. absurd (x .0 tt))
+third false true = (unlike (λ n. omega arith), λ x. absurd (x .1 tt))
+third false false = (λ e. ((λ h. h), λ h. h), λ x. refl)
 
 module _ (s : Settings) (rows : List ℕ) (due t : ℕ) where
-  -- the word of the multipliers u fits what arrived of the codeword of lane v that starts at slot t - i
-  abbrev pub Fitting : ℕ → ℕ → (ℕ → ℕ) → Type 0
-  Fitting i v u = Bytes u × T (fits s (arrived s rows due t i v) u)
-
-  -- some codeword that carries the message has no word that fits
-  pub record SomeClash : Type 0 where
-    pub symbol : ℕ
-    pub lane : ℕ
-    pub symbol-below : symbol < kOf s
-    pub lane-below : lane < s .lanes
-    pub none-fits : (u : ℕ → ℕ) → Fitting symbol lane u → ⊥
-
-  -- two words that fit differ in the message
-  pub record SomeLost : Type 0 where
-    pub symbol : ℕ
-    pub lane : ℕ
-    pub symbol-below : symbol < kOf s
-    pub lane-below : lane < s .lanes
-    pub one : ℕ → ℕ
-    pub other : ℕ → ℕ
-    pub one-fits : Fitting symbol lane one
-    pub other-fits : Fitting symbol lane other
-    pub they-differ : wordAt s one symbol ≡ wordAt s other symbol → ⊥
-
-  -- some word fits, and all that fit have the byte b there
-  pub record Shares (i v b : ℕ) : Type 0 where
-    pub word : ℕ → ℕ
-    pub word-fits : Fitting i v word
-    pub all-have : (u : ℕ → ℕ) → Fitting i v u → wordAt s u i ≡ b
-
-  -- every codeword that carries the message has words that fit and share a byte
-  abbrev pub AllShare : (ℕ → ℕ → ℕ) → Type 0
-  AllShare byte = (i v : ℕ) → i < kOf s → v < s .lanes → Shares i v (byte i v)
+  -- what arrived of the codewords that carry the message
+  abbrev what : ℕ → ℕ → Arrived
+  what = arrived s rows due t
 
   -- ---- one codeword
 
@@ -154,8 +97,8 @@ module _ (s : Settings) (rows : List ℕ) (due t : ℕ) where
   at-some f i v hi hv h =
       some-any (kOf s) (λ i. any (s .lanes) (λ v. f i v)) i hi (some-any (s .lanes) (λ v. f i v) v hv h)
 
-  clash-means : T (someCodeword s (λ i v. isClash (symbolSaid s rows due t i v))) → SomeClash
-  unfolding symbolSaid
+  clash-means : T (noneFits s rows due t) → SomeClash s what
+  unfolding noneFits symbolSaid
   clash-means h =
       let x = some-at (λ i v. isClash (symbolSaid s rows due t i v)) h in
       record {
@@ -166,15 +109,15 @@ module _ (s : Settings) (rows : List ℕ) (due t : ℕ) where
         none-fits = λ u f. clash-said s (arrived s rows due t (x .0) (x .1)) (x .0) (symbol-clash (x .0) (x .1) (x .4)) u (f .0) (f .1);
       }
 
-  means-clash : SomeClash → T (someCodeword s (λ i v. isClash (symbolSaid s rows due t i v)))
-  unfolding symbolSaid
+  means-clash : SomeClash s what → T (noneFits s rows due t)
+  unfolding noneFits symbolSaid
   means-clash c =
       at-some (λ i v. isClash (symbolSaid s rows due t i v)) (c .symbol) (c .lane) (c .symbol-below) (c .lane-below)
       (subst⁻¹ (λ (x : Symbol). T (isClash x))
       (said-clash s (arrived s rows due t (c .symbol) (c .lane)) (c .symbol) (λ u b f. c .none-fits u (b, f))) tt)
 
-  lost-means : T (someCodeword s (λ i v. isLost (symbolSaid s rows due t i v))) → SomeLost
-  unfolding symbolSaid
+  lost-means : T (twoDiffer s rows due t) → SomeLost s what
+  unfolding twoDiffer symbolSaid
   lost-means h =
       let x = some-at (λ i v. isLost (symbolSaid s rows due t i v)) h in
       let y = lost-said s (arrived s rows due t (x .0) (x .1)) (x .0) (symbol-lost (x .0) (x .1) (x .4)) in
@@ -190,8 +133,8 @@ module _ (s : Settings) (rows : List ℕ) (due t : ℕ) where
         they-differ = y .6;
       }
 
-  means-lost : SomeLost → T (someCodeword s (λ i v. isLost (symbolSaid s rows due t i v)))
-  unfolding symbolSaid
+  means-lost : SomeLost s what → T (twoDiffer s rows due t)
+  unfolding twoDiffer symbolSaid
   means-lost c =
       at-some (λ i v. isLost (symbolSaid s rows due t i v)) (c .symbol) (c .lane) (c .symbol-below) (c .lane-below)
       (subst⁻¹ (λ (x : Symbol). T (isLost x))
@@ -200,58 +143,58 @@ module _ (s : Settings) (rows : List ℕ) (due t : ℕ) where
 
   -- ---- the verdict
 
-  -- the two tests, clash before lost
-  abbrev clashTest : Bool
-  clashTest = someCodeword s (λ i v. isClash (symbolSaid s rows due t i v))
-
-  abbrev lostTest : Bool
-  lostTest = someCodeword s (λ i v. isLost (symbolSaid s rows due t i v))
-
   -- where neither passes, the fitting words share each symbol's byte
-  neither-shares : (T clashTest → ⊥) → (T lostTest → ⊥) → AllShare (λ i v. wholeByte (symbolSaid s rows due t i v))
-  unfolding symbolSaid
+  neither-shares : (T (noneFits s rows due t) → ⊥) → (T (twoDiffer s rows due t) → ⊥)
+      → AllShare s what (λ i v. wholeByte (symbolSaid s rows due t i v))
+  unfolding noneFits twoDiffer symbolSaid
   neither-shares c l i v hi hv =
       let x = whole-said s (arrived s rows due t i v) i (wholeByte (symbolSaid s rows due t i v))
       (symbol-whole i v (λ h. c (at-some (λ i v. isClash (symbolSaid s rows due t i v)) i v hi hv h))
       (λ h. l (at-some (λ i v. isLost (symbolSaid s rows due t i v)) i v hi hv h))) in
-      record { word = x .0 .0; word-fits = (x .0 .1, x .0 .2); all-have = λ u f. x .1 u (f .0) (f .1) }
+      record { word = x .0 .0; is-such = (x .0 .1, x .0 .2); all-have = λ u f. x .1 u (f .0) (f .1) }
 
-  -- where they share bytes, neither test passes
-  shares-no-clash : (byte : ℕ → ℕ → ℕ) → AllShare byte → T clashTest → ⊥
-  shares-no-clash byte all h =
-      let c = clash-means h in
-      c .none-fits (all (c .symbol) (c .lane) (c .symbol-below) (c .lane-below) .word)
-      (all (c .symbol) (c .lane) (c .symbol-below) (c .lane-below) .word-fits)
+  -- where they share bytes there is neither
+  clash-apart : (byte : ℕ → ℕ → ℕ) → AllShare s what byte → SomeClash s what → ⊥
+  clash-apart byte all c =
+      let x = all (c .symbol) (c .lane) (c .symbol-below) (c .lane-below) in
+      c .none-fits (x .word) (x .is-such)
 
-  shares-no-lost : (byte : ℕ → ℕ → ℕ) → AllShare byte → T lostTest → ⊥
-  shares-no-lost byte all h =
-      let c = lost-means h in
+  lost-apart : (byte : ℕ → ℕ → ℕ) → AllShare s what byte → SomeLost s what → ⊥
+  lost-apart byte all c =
       let x = all (c .symbol) (c .lane) (c .symbol-below) (c .lane-below) in
       c .they-differ (x .all-have (c .one) (c .one-fits) ∙ sym (x .all-have (c .other) (c .other-fits)))
 
+  -- the two tests, clash before lost
+  abbrev none : Bool
+  none = noneFits s rows due t
+
+  abbrev two : Bool
+  two = twoDiffer s rows due t
+
   -- clash, exactly if some codeword that carries the message has no word that fits what arrived
-  pub verdict-clash : (verdict s rows due t ≡ reply.Clash) ↔ SomeClash
-  unfolding verdict noneFits twoDiffer
-  verdict-clash = (λ e. clash-means (first-clash clashTest lostTest e), λ c. first-is clashTest lostTest (means-clash c))
+  pub verdict-clash : (verdict s rows due t ≡ reply.Clash) ↔ SomeClash s what
+  unfolding verdict
+  verdict-clash = (λ e. clash-means (first none two .0 e), λ c. first none two .1 (means-clash c))
 
   -- else lost, exactly if two fitting words differ in it
-  pub verdict-lost : (verdict s rows due t ≡ reply.Lost) ↔ ((SomeClash → ⊥) × SomeLost)
-  unfolding verdict noneFits twoDiffer
+  pub verdict-lost : (verdict s rows due t ≡ reply.Lost) ↔ ((SomeClash s what → ⊥) × SomeLost s what)
+  unfolding verdict
   verdict-lost = (
-    λ e. ((λ c. second-not clashTest lostTest e (means-clash c)), lost-means (second-lost clashTest lostTest e)),
-    λ x. second-is clashTest lostTest (λ h. x .0 (clash-means h)) (means-lost (x .1)),
+    λ e. let x = second none two .0 e in ((λ c. x .0 (means-clash c)), lost-means (x .1)),
+    λ x. second none two .1 ((λ h. x .0 (clash-means h)), means-lost (x .1)),
   )
 
-  -- else whole, with the bytes that they share
-  pub verdict-whole : (verdict s rows due t ≡ reply.Whole) ↔ ((byte : ℕ → ℕ → ℕ) × AllShare byte)
-  unfolding verdict noneFits twoDiffer
-  verdict-whole = (
-    λ e. (
-      (λ i v. wholeByte (symbolSaid s rows due t i v)),
-      neither-shares (third-not-first clashTest lostTest e) (third-not-second clashTest lostTest e),
-    ),
-    λ x. third-is clashTest lostTest (shares-no-clash (x .0) (x .1)) (shares-no-lost (x .0) (x .1)),
+  -- else whole
+  pub verdict-else : (verdict s rows due t ≡ reply.Whole) ↔ ((SomeClash s what → ⊥) × (SomeLost s what → ⊥))
+  unfolding verdict
+  verdict-else = (
+    λ e. let x = third none two .0 e in ((λ c. x .0 (means-clash c)), λ l. x .1 (means-lost l)),
+    λ x. third none two .1 ((λ h. x .0 (clash-means h)), λ h. x .1 (lost-means h)),
   )
+
+  -- and whole where the fitting words share bytes
+  pub shares-whole : (byte : ℕ → ℕ → ℕ) → AllShare s what byte → verdict s rows due t ≡ reply.Whole
+  shares-whole byte all = verdict-else .1 ((λ c. clash-apart byte all c), λ l. lost-apart byte all l)
 
   -- a shared byte, where it stands in the message
   pub shared-byte : (i v : ℕ) → i < kOf s → v < s .lanes
@@ -264,9 +207,29 @@ module _ (s : Settings) (rows : List ℕ) (due t : ℕ) where
 
   -- and then the message buffer holds them
   pub whole-bytes : verdict s rows due t ≡ reply.Whole
-      → AllShare (λ i v. getD (bufferOf s rows due t (verdict s rows due t)) (i * s .lanes + v) 0)
-  unfolding bufferOf verdict noneFits twoDiffer
+      → AllShare s what (λ i v. getD (bufferOf s rows due t (verdict s rows due t)) (i * s .lanes + v) 0)
+  unfolding bufferOf verdict
   whole-bytes e i v hi hv =
-      subst⁻¹ (λ (b : ℕ). Shares i v b)
+      subst⁻¹ (λ (b : ℕ). Share s (Fitting s (what i v)) i b)
       (ap (λ (x : Reply). getD (bufferOf s rows due t x) (i * s .lanes + v) 0) e ∙ shared-byte i v hi hv)
-      (neither-shares (third-not-first clashTest lostTest e) (third-not-second clashTest lostTest e) i v hi hv)
+      (let x = third none two .0 e in neither-shares (x .0) (x .1) i v hi hv)
+
+  -- ---- the message buffer, by any reply
+
+  -- zeros unless the message is whole
+  pub buffer-zeros : (r : Reply) → (replyNumber r ≡ 17 → ⊥) → bufferOf s rows due t r ≡ replicate (messageLen s) 0
+  unfolding bufferOf
+  buffer-zeros (reply.Refused c) n = refl
+  buffer-zeros reply.NoneYet n = refl
+  buffer-zeros reply.Whole n = absurd (n refl)
+  buffer-zeros reply.Lost n = refl
+  buffer-zeros reply.Clash n = refl
+
+  -- and it has its length
+  pub buffer-length : (r : Reply) → length (bufferOf s rows due t r) ≡ messageLen s
+  unfolding bufferOf sharedBytes
+  buffer-length (reply.Refused c) = length-replicate (messageLen s) 0
+  buffer-length reply.NoneYet = length-replicate (messageLen s) 0
+  buffer-length reply.Whole = length-table (messageLen s) _
+  buffer-length reply.Lost = length-replicate (messageLen s) 0
+  buffer-length reply.Clash = length-replicate (messageLen s) 0

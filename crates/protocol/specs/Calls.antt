@@ -1,6 +1,6 @@
 -- Document 01, "What is remembered" and "Why a call says no": each call as a function of the state and every lent list.
-use mathlib.Core.Bool.{Bool, cond}
-use mathlib.Core.List.{List, [], _∷_}
+use mathlib.Core.Bool.{cond}
+use mathlib.Core.List.{List, _∷_}
 use Prim.Native.Nat.{ℕ, _+_, _-_, _%_}
 use lib.Dec.{ltb}
 use lib.ListN.{drop, replicate}
@@ -13,10 +13,10 @@ use Rattle.protocol.specs.declared.Answer.the-variants as answer
 use Rattle.protocol.specs.declared.Reply.{Reply}
 use Rattle.protocol.specs.declared.Reply.the-variants as reply
 use Rattle.protocol.specs.Lengths.{messageLen, bodyLen, senderLen, rowLen, rowCount, receiverLen}
-use Rattle.protocol.specs.Rows.{putRow, joined}
 use Rattle.protocol.specs.Frame.{frameOf}
+use Rattle.protocol.specs.Rows.{putRow, joined}
 use Rattle.protocol.specs.Verdict.{verdict, bufferOf}
-use Rattle.protocol.specs.Causes.{Found, nothing, cause, openCause, sendCause, lossCause, frameCause}
+use Rattle.protocol.specs.Causes.{nothing, cause, openCause, sendCause, lossCause, frameCause}
 
 -- the settings of a refused opening's state
 unfoldable pub noSettings : Settings

@@ -1,6 +1,6 @@
--- Document 01, "Why a call says no": the causes, their numbers, and the first that holds.
+-- Document 01, "Why a call says no": the causes, their numbers, the table of each call in the order of checking, and the first that holds.
 use mathlib.Core.Bool.{Bool, true, false, not, _&&_}
-use mathlib.Core.List.{List, []}
+use mathlib.Core.List.{List, [], _∷_}
 use Prim.Native.Nat.{ℕ}
 use lib.Dec.{eqb, ltb}
 use lib.ListN.{getD, length, drop}
@@ -23,7 +23,7 @@ numberOf OtherMark = 4
 numberOf OtherSettings = 5
 numberOf OtherSlot = 6
 
--- the first listed cause that holds, if any
+-- the first listed cause that holds, if there is one
 pub data Found : Type 0 where
   nothing : Found
   cause : Cause → Found
@@ -33,46 +33,66 @@ abbrev pub check : Bool → Cause → Found → Found
 check true c rest = cause c
 check false c rest = rest
 
+-- a row of a call's table: its condition, and the cause
+pub record Row : Type 0 where
+  pub holds : Bool
+  pub why : Cause
+
+abbrev row : Bool → Cause → Row
+row condition c = record { holds = condition; why = c }
+
+-- the table read from the top
+abbrev pub firstOf : List Row → Found
+firstOf [] = nothing
+firstOf (r ∷ rs) = check (r .holds) (r .why) (firstOf rs)
+
 -- two lists agree at the first m places
 unfoldable pub agree : ℕ → List ℕ → List ℕ → Bool
 agree m a b = every m (λ i. eqb (getD a i 0) (getD b i 0))
 
--- an opening meets 1 and 2
-unfoldable pub openCause : Settings → ℕ → List ℕ → Found
-openCause s size rows = check (not (accepted s)) BadSettings (check (not (eqb (length rows) size)) BadLength nothing)
+-- an opening meets 1 and 2; size is the length of its end's rows
+abbrev pub openTable : Settings → ℕ → List ℕ → List Row
+openTable s size rows = row (not (accepted s)) BadSettings ∷ row (not (eqb (length rows) size)) BadLength ∷ []
 
 -- a send meets 1, 2 and 3
-unfoldable pub sendCause : Sender → List ℕ → List ℕ → List ℕ → Found
-sendCause x rows message frame =
+abbrev pub sendTable : Sender → List ℕ → List ℕ → List ℕ → List Row
+sendTable x rows message frame =
     let s = x .settings in
-    check (not (accepted s)) BadSettings
-    (check
-    (not
-    (eqb (length rows) (senderLen s) && eqb (length message) (messageLen s) && eqb (length frame) (frameLen s)))
-    BadLength
-    (check (ltb lastSlot (x .due)) PastLastSlot
-    nothing))
+    row (not (accepted s)) BadSettings
+    ∷ row (not (eqb (length rows) (senderLen s) && eqb (length message) (messageLen s) && eqb (length frame) (frameLen s))) BadLength
+    ∷ row (ltb lastSlot (x .due)) PastLastSlot
+    ∷ []
 
 -- a loss report meets 1, 2 and 3
-unfoldable pub lossCause : Receiver → List ℕ → List ℕ → Found
-lossCause x rows message =
+abbrev pub lossTable : Receiver → List ℕ → List ℕ → List Row
+lossTable x rows message =
     let s = x .settings in
-    check (not (accepted s)) BadSettings
-    (check (not (eqb (length rows) (receiverLen s) && eqb (length message) (messageLen s))) BadLength
-    (check (ltb lastSlot (x .due)) PastLastSlot
-    nothing))
+    row (not (accepted s)) BadSettings
+    ∷ row (not (eqb (length rows) (receiverLen s) && eqb (length message) (messageLen s))) BadLength
+    ∷ row (ltb lastSlot (x .due)) PastLastSlot
+    ∷ []
 
 -- a frame report meets all of them
-unfoldable pub frameCause : Receiver → List ℕ → List ℕ → List ℕ → Found
-frameCause x rows frame message =
+abbrev pub frameTable : Receiver → List ℕ → List ℕ → List ℕ → List Row
+frameTable x rows frame message =
     let s = x .settings in
-    check (not (accepted s)) BadSettings
-    (check
-    (not
-    (eqb (length rows) (receiverLen s) && eqb (length frame) (frameLen s) && eqb (length message) (messageLen s)))
-    BadLength
-    (check (ltb lastSlot (x .due)) PastLastSlot
-    (check (not (agree 5 frame (mark 1))) OtherMark
-    (check (not (agree 5 (drop 5 frame) (five s))) OtherSettings
-    (check (not (agree 4 (drop 10 frame) (slotBytes (x .due)))) OtherSlot
-    nothing)))))
+    row (not (accepted s)) BadSettings
+    ∷ row (not (eqb (length rows) (receiverLen s) && eqb (length frame) (frameLen s) && eqb (length message) (messageLen s))) BadLength
+    ∷ row (ltb lastSlot (x .due)) PastLastSlot
+    ∷ row (not (agree 5 frame (mark 1))) OtherMark
+    ∷ row (not (agree 5 (drop 5 frame) (five s))) OtherSettings
+    ∷ row (not (agree 4 (drop 10 frame) (slotBytes (x .due)))) OtherSlot
+    ∷ []
+
+-- the first cause of each table that holds
+unfoldable pub openCause : Settings → ℕ → List ℕ → Found
+openCause s size rows = firstOf (openTable s size rows)
+
+unfoldable pub sendCause : Sender → List ℕ → List ℕ → List ℕ → Found
+sendCause x rows message frame = firstOf (sendTable x rows message frame)
+
+unfoldable pub lossCause : Receiver → List ℕ → List ℕ → Found
+lossCause x rows message = firstOf (lossTable x rows message)
+
+unfoldable pub frameCause : Receiver → List ℕ → List ℕ → List ℕ → Found
+frameCause x rows frame message = firstOf (frameTable x rows frame message)

@@ -1,8 +1,11 @@
 -- Document 01, "Two lists, one claim": each call gets the state and rows as the call before it returned or left them.
 use mathlib.Core.List.{List, [], _∷_}
 use Prim.Native.Nat.{ℕ}
+use lib.ListN.{drop, replicate}
+use Rattle.code.specs.declared.settings.Settings.{Settings}
 use Rattle.protocol.specs.declared.Sender.{Sender}
 use Rattle.protocol.specs.declared.Receiver.{Receiver}
+use Rattle.protocol.specs.Lengths.{rowLen}
 use Rattle.protocol.specs.Calls.{Sent, Reported, sendOf, lossOf, heardOf}
 
 -- a send: the message and the lent frame
@@ -17,6 +20,7 @@ pub record SendMade : Type 0 where
   pub call : Send
   pub after : Sent
 
+-- any list of sends
 unfoldable pub sends : Sender → List ℕ → List Send → List SendMade
 sends x rows [] = []
 sends x rows (c ∷ cs) =
@@ -28,9 +32,15 @@ pub data Report : Type 0 where
   heard : List ℕ → List ℕ → Report
   missed : List ℕ → Report
 
+-- what comes of it
 unfoldable pub reportOf : Receiver → List ℕ → Report → Reported
 reportOf x rows (heard frame message) = heardOf x rows frame message
 reportOf x rows (missed message) = lossOf x rows message
+
+-- the row that it writes where it is accepted: 1 and then the frame's body, or zeros
+unfoldable pub rowOf : Settings → Report → List ℕ
+rowOf s (heard frame message) = 1 ∷ drop 14 frame
+rowOf s (missed message) = replicate (rowLen s) 0
 
 -- a report that was made: the receiver and rows that it got, and what came of it
 pub record ReportMade : Type 0 where
@@ -39,6 +49,7 @@ pub record ReportMade : Type 0 where
   pub call : Report
   pub after : Reported
 
+-- any list of reports
 unfoldable pub reports : Receiver → List ℕ → List Report → List ReportMade
 reports x rows [] = []
 reports x rows (c ∷ cs) =

@@ -1,5 +1,5 @@
-// The states of both ends, and what a call answers. Each call is a definition in specs/, and proofs/ has the theorem about any two
-// lists of calls.
+// The states of both ends, and what a call answers. Each call is a definition in specs/, the demands are statements about these
+// definitions, and proofs/ has their theorems.
 mod header;
 mod lengths;
 mod slices;
@@ -47,13 +47,13 @@ pub enum Cause {
     OtherSlot,
 }
 
-// What an opening or a send answers.
+// What an opening or a send answers; `answerNumber` of specs/Numbers.antt has the numbers.
 pub enum Answer {
     Accepted,
     Refused(Cause),
 }
 
-// What a report answers.
+// What a report answers; `replyNumber` of specs/Numbers.antt has the numbers.
 pub enum Reply {
     Refused(Cause),
     NoneYet,

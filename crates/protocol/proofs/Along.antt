@@ -1,33 +1,11 @@
--- The sender's list: what holds along it, which slots it sends, and the message of each.
+-- What holds along the sender's list.
 use mathlib.Core.Path.{_≡_, refl, ap, subst⁻¹}
-use mathlib.Core.Bool.{Bool, true, false, cond, _&&_}
 use mathlib.Core.Logic.{⊎-elim}
 use mathlib.Core.List.{List, [], _∷_, List·Memᴰ, List·Memᴰ·not-nil, List·Memᴰ·cases-cons, List·Memᴰ·head, List·Memᴰ·tail}
 use Prim.Native.Nat.{ℕ}
-use lib.Dec.{eqb}
 use Rattle.protocol.specs.declared.Sender.{Sender}
-use Rattle.protocol.specs.declared.Answer.{Answer}
-use Rattle.protocol.specs.declared.Answer.the-variants as answer
 use Rattle.protocol.specs.Calls.{Sent, sendOf}
 use Rattle.protocol.specs.TwoLists.{Send, SendMade, sends}
-
--- ---- the message of a slot
-
--- whether an answer is no refusal
-abbrev pub isAccepted : Answer → Bool
-isAccepted answer.Accepted = true
-isAccepted (answer.Refused c) = false
-
--- what g says of the accepted send of slot t, and nothing if there was none
-unfoldable pub pickedAt : (SendMade → List ℕ) → List SendMade → ℕ → List ℕ
-pickedAt g [] t = []
-pickedAt g (m ∷ ms) t = cond (isAccepted (m .after .answer) && eqb (m .before .due) t) (g m) (pickedAt g ms t)
-
--- the message given to the accepted send of slot t, and nothing if there was none
-unfoldable pub messageAt : List SendMade → ℕ → List ℕ
-messageAt = pickedAt (λ m. m .call .message)
-
--- ---- along the list
 
 -- the send of c by a sender x with these rows
 abbrev pub madeOf : Sender → List ℕ → Send → SendMade

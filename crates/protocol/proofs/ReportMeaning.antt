@@ -1,0 +1,130 @@
+-- Demand 2, the receiver: `demand2-verdict`, whose statement is `Demand2Verdict` of specs/Meaning.antt.
+use mathlib.Core.Path.{_≡_, refl, sym, ap, _∙_, subst, subst⁻¹}
+use mathlib.Core.Bool.{Bool, true, false, cond}
+use mathlib.Core.Logic.{_↔_}
+use mathlib.Core.List.{List}
+use Prim.Native.Nat.{ℕ, _+_, _*_, _%_}
+use native.Mathlib.Omega.{arith}
+use lib.Dec.{T, ltb, ltb→lt, lt→ltb}
+use lib.ListN.{getD}
+use Rattle.code.specs.declared.settings.Settings.{Settings}
+use Rattle.code.specs.Settings.{delayOf}
+use Rattle.code.proofs.Shape.{shape}
+use Rattle.protocol.specs.declared.Receiver.{Receiver}
+use Rattle.protocol.specs.declared.Reply.{Reply}
+use Rattle.protocol.specs.declared.Reply.the-variants as reply
+use Rattle.protocol.specs.Lengths.{rowLen, rowCount}
+use Rattle.protocol.specs.Rows.{putRow}
+use Rattle.protocol.specs.Verdict.{noneFits, twoDiffer, verdict}
+use Rattle.protocol.specs.Causes.{Found, nothing, cause, lossCause, frameCause}
+use Rattle.protocol.specs.Numbers.{replyNumber}
+use Rattle.protocol.specs.Calls.{Reported, messageDue, movedOn, lossOf, heardOf, openReceiverOf}
+use Rattle.protocol.specs.TwoLists.{Report, heard, missed, reportOf, rowOf, reports}
+use Rattle.protocol.specs.Histories.{accepts}
+use Rattle.protocol.specs.Meaning.{inTime, AllShare, Tells, AcceptedReport, Demand2Verdict}
+use Rattle.protocol.proofs.NumberLaws.{reply-tells}
+use Rattle.protocol.proofs.VerdictMeaning.{verdict-clash, verdict-lost, verdict-else, whole-bytes, buffer-length, buffer-zeros}
+use Rattle.protocol.proofs.ReportSteps.{heard-moves, heard-stays, loss-moves, loss-stays}
+use Rattle.protocol.proofs.ReportChain.{waiting, opened-chain}
+use Rattle.protocol.proofs.Received.{ByVerdict, by-verdict}
+use Rattle.protocol.proofs.SlotRows.{Telling}
+use Rattle.protocol.proofs.Arrivals.{known-came}
+
+-- ---- none yet
+
+-- the reply is none yet by the test, where the other one is not
+none-by : (b : Bool) (q : Reply) → (replyNumber q ≡ 16 → ⊥) → (replyNumber (cond b reply.NoneYet q) ≡ 16) ↔ T b
+none-by true q n = (λ e. tt, λ h. refl)
+none-by false q n = (λ e. absurd (n e), λ h. absurd h)
+
+-- ---- the verdict, by its number
+
+module _ (s : Settings) (t : ℕ) (r : Reported) (e : ByVerdict s t r) where
+  number-of : {P : Type 0} (x : Reply) → (verdict s (r .rows) (t + delayOf s + 1) t ≡ x) ↔ P → (replyNumber (r .reply) ≡ replyNumber x) ↔ P
+  number-of x iff = (
+    λ n. iff .0 (sym (e .0) ∙ reply-tells (r .reply) x n),
+    λ p. ap replyNumber (e .0 ∙ iff .1 p),
+  )
+
+  tells : Tells s t r
+  tells =
+      let due : ℕ = t + delayOf s + 1 in
+      record {
+        clash = number-of reply.Clash (verdict-clash s (r .rows) due t);
+        lost = number-of reply.Lost (verdict-lost s (r .rows) due t);
+        whole = number-of reply.Whole (verdict-else s (r .rows) due t);
+        shared = λ n.
+            subst⁻¹ (λ (l : List ℕ). AllShare s (inTime s (r .rows) t) (λ i v. getD l (i * s .lanes + v) 0)) (e .1)
+            (whole-bytes s (r .rows) due t (sym (e .0) ∙ reply-tells (r .reply) reply.Whole n));
+      }
+
+-- ---- by the rows
+
+-- a verdict is never none yet
+verdict-told : (s : Settings) (rows : List ℕ) (due t : ℕ) → replyNumber (verdict s rows due t) ≡ 16 → ⊥
+unfolding verdict
+verdict-told s rows due t = go (noneFits s rows due t) (twoDiffer s rows due t)
+  where
+    go : (a b : Bool) → replyNumber (cond a reply.Clash (cond b reply.Lost reply.Whole)) ≡ 16 → ⊥
+    go true b e = omega arith
+    go false true e = omega arith
+    go false false e = omega arith
+
+moved-report : (x : Receiver) (call : Report) (rows : List ℕ)
+    → AcceptedReport (x .settings) (x .due) rows call (movedOn x (rowOf (x .settings) call) rows)
+unfolding movedOn
+moved-report x call rows =
+    let s = x .settings in
+    let now : List ℕ = putRow (rowLen s) (x .due % rowCount s) (rowOf s call) rows in
+    let t : ℕ = messageDue s (x .due) in
+    let told : Reply = cond (ltb (x .due) (delayOf s)) reply.NoneYet (verdict s now (x .due + 1) t) in
+    let none = none-by (ltb (x .due) (delayOf s)) (verdict s now (x .due + 1) t) (verdict-told s now (x .due + 1) t) in
+    record {
+      moved = refl;
+      written = refl;
+      none-yet = (λ e. ltb→lt (x .due) (delayOf s) (none .0 e), λ h. none .1 (lt→ltb (x .due) (delayOf s) h));
+      tells = λ u e.
+          tells s u (movedOn x (rowOf s call) rows)
+          (subst⁻¹ (λ (d : ℕ). ByVerdict s u (movedOn (waiting s d) (rowOf s call) rows)) e (by-verdict s u (rowOf s call) rows));
+      exact = buffer-length s now (x .due + 1) t told;
+      zeros = buffer-zeros s now (x .due + 1) t told;
+    }
+
+-- a report with a reply that is no refusal moves on by its row
+accepted-moves : (x : Receiver) (rows : List ℕ) (call : Report) → T (accepts (reportOf x rows call .reply))
+    → reportOf x rows call ≡ movedOn x (rowOf (x .settings) call) rows
+unfolding reportOf rowOf
+accepted-moves x rows (heard frame message) ok = go (frameCause x rows frame message) refl
+  where
+    go : (f : Found) → frameCause x rows frame message ≡ f
+        → heardOf x rows frame message ≡ movedOn x (rowOf (x .settings) (heard frame message)) rows
+    go nothing e = heard-moves x rows frame message e
+    go (cause c) e = absurd (subst (λ (r : Reported). T (accepts (r .reply))) (heard-stays x rows frame message c e) ok)
+accepted-moves x rows (missed message) ok = go (lossCause x rows message) refl
+  where
+    go : (f : Found) → lossCause x rows message ≡ f
+        → lossOf x rows message ≡ movedOn x (rowOf (x .settings) (missed message)) rows
+    go nothing e = loss-moves x rows message e
+    go (cause c) e = absurd (subst (λ (r : Reported). T (accepts (r .reply))) (loss-stays x rows message c e) ok)
+
+-- demand 2, the receiver. Wrong definitions that agree with themselves, and what in the statement rules each out:
+-- - lost for any slot not heard: 18 asks for two fitting words that differ in the message
+-- - lost, or none yet, without a look at later frames: 18 is told by what arrived up to slot t + T, and 16 below slot T alone
+-- - a fixed message, or the last one repeated: whole has the bytes that the fitting words of message t share, for every t
+-- - zero parity at both ends: the words are those of G
+-- - a loss that leaves its row, or an opening that leaves the rows: `by-history` has every row that is looked at
+pub demand2-verdict : Demand2Verdict
+demand2-verdict = record {
+  by-rows = λ x rows call ok.
+      subst⁻¹ (AcceptedReport (x .settings) (x .due) rows call) (accepted-moves x rows call ok) (moved-report x call rows);
+  by-history = λ s ok rows exact calls r listed passed t slot i v p byte hi hv hp.
+      let told = reports (openReceiverOf s rows .receiver) (openReceiverOf s rows .rows) calls in
+      let telling : Telling s told r t = record {
+        shape = shape s ok;
+        chain = opened-chain s ok rows exact calls;
+        listed = listed;
+        passed = passed;
+        slot = slot;
+      } in
+      known-came telling i p v hi hp hv byte;
+}
