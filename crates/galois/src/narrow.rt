@@ -43,7 +43,7 @@ impl Gf16 {
     }
 
     // The product of two numbers that are narrow: the polynomials', with z^4, z^5 and z^6 replaced by what they are modulo z^4 + z + 1.
-    pub fn narrow_product(self, other: Gf16) -> Gf16
+    fn narrow_product(self, other: Gf16) -> Gf16
         requires { ⌜ (self .0 < 16) × (other .0 < 16) ⌝ }
         ensures { λ r. ⌜ r .0 ≡ self .0 ⊠ other .0 ⌝ }
     {
