@@ -6,7 +6,7 @@ use Prim.Native.Nat.{ℕ, _+_}
 use lib.ListN.{length, take, drop, drop-of-length-le}
 use Rattle.code.specs.declared.settings.Settings.{Settings}
 use Rattle.protocol.specs.Frame.{five, slotBytes}
-use Rattle.layout.specs.State.{markOf, stateBytes, stateLen}
+use Rattle.layout.specs.State.{stateBytes, stateLen}
 
 pub length-state : (end : ℕ) (s : Settings) (due : ℕ) → length (stateBytes end s due) ≡ stateLen
 unfolding five slotBytes stateBytes

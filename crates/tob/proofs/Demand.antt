@@ -1,24 +1,20 @@
 -- Demand 3 of the static library: protocol's `demand3`, carried over to what the library's callers see.
 use mathlib.Core.Path.{_≡_, refl, sym, ap, ap₂, _∙_, subst, subst⁻¹, fun-ext}
 use mathlib.Core.Bool.{Bool, _&&_, _||_}
-use mathlib.Core.Logic.{_↔_}
-use mathlib.Core.List.{List, List·Memᴰ, Forall₂, Forall₂·nil, Forall₂·cons}
+use mathlib.Core.List.{List, Forall₂, Forall₂·nil, Forall₂·cons}
 use Prim.Native.Nat.{ℕ, _+_, _-_, _≤_}
 use lib.Dec.{T, eqb}
 use lib.ListN.{length}
 use Rattle.code.specs.declared.settings.Settings.{Settings}
-use Rattle.code.specs.Settings.{accepted, delayOf, kOf}
+use Rattle.code.specs.Settings.{delayOf, kOf}
 use Rattle.repair.specs.Fair.{Fair}
-use Rattle.protocol.specs.declared.Answer.the-variants as answer
-use Rattle.protocol.specs.declared.Reply.the-variants as reply
-use Rattle.protocol.specs.Lengths.{lastSlot, messageLen, frameLen, senderLen, receiverLen}
+use Rattle.protocol.specs.Lengths.{lastSlot}
 use Rattle.protocol.specs.Calls.{OpenedSender, OpenedReceiver, openSenderOf, openReceiverOf}
-use Rattle.protocol.specs.TwoLists.{Send, SendMade, sends, Report, heard, ReportMade, reports}
-use Rattle.protocol.specs.Claim.{Bytes, SentAs, accepts, ofLoss, lostAt, Faithful, NoCause, Holds, Demand3}
+use Rattle.protocol.specs.TwoLists.{Send, SendMade, sends, ReportMade, reports}
+use Rattle.protocol.specs.Claim.{SentAs, accepts, ofLoss, lostAt, Faithful, NoCause, Holds, Demand3}
 use Rattle.protocol.proofs.Demand.{demand3}
 use Rattle.protocol.proofs.Sending as sending
 use Rattle.protocol.proofs.ReportChain as reporting
-use Rattle.layout.specs.State.{stateLen}
 use Rattle.layout.specs.Numbers.{answerNumber, replyNumber, acceptance}
 use Rattle.layout.proofs.Refusals.{reply-accepted, answer-accepted}
 use Rattle.tob.specs.Calls.{settingsOf, Opening, openSenderBytes, openReceiverBytes}

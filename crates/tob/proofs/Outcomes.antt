@@ -1,5 +1,5 @@
 -- What each way out of a call gives back: where the state gives a cause, that refusal; else what protocol's call leaves.
-use mathlib.Core.Path.{_≡_, refl, ap, _∙_}
+use mathlib.Core.Path.{_≡_, refl}
 use mathlib.Core.Bool.{Bool, true, false, cond, not, _&&_}
 use mathlib.Core.List.{List, _∷_}
 use Prim.Native.Nat.{ℕ}
@@ -10,14 +10,13 @@ use Rattle.code.specs.declared.settings.Settings.{Settings}
 use Rattle.code.specs.Settings.{accepted}
 use Rattle.protocol.specs.declared.Cause.{Cause}
 use Rattle.protocol.specs.declared.Cause.the-variants.{BadSettings, BadLength}
-use Rattle.protocol.specs.declared.Receiver.{Receiver}
 use Rattle.protocol.specs.Lengths.{senderLen, receiverLen}
 use Rattle.protocol.specs.Causes.{Found, nothing, cause, numberOf, check, openCause, sendCause, lossCause, frameCause}
 use Rattle.protocol.specs.Calls.{OpenedSender, OpenedReceiver, Sent, Reported, openSenderOf, sendOf, openReceiverOf, movedOn, heardOf, lossOf}
 use Rattle.protocol.specs.Claim.{accepts}
 use Rattle.protocol.proofs.CauseTables.{check-nothing, passes}
 use Rattle.protocol.proofs.ReportRows.{moved-accepts}
-use Rattle.layout.specs.State.{senderEnd, receiverEnd, stateBytes, saved, stateLen, settingsAt, senderIn, receiverIn, stateCause}
+use Rattle.layout.specs.State.{senderEnd, receiverEnd, saved, stateLen, settingsAt, senderIn, receiverIn, stateCause}
 use Rattle.layout.specs.Numbers.{answerNumber, replyNumber, taken}
 use Rattle.layout.proofs.KeptStates.{caused-rest, uncaused-rest}
 use Rattle.tob.specs.Causes.{openBytesCause, sendBytesCause, heardBytesCause, lostBytesCause}

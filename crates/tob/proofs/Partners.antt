@@ -1,7 +1,7 @@
 -- Of two lists that are alike place by place, an entry of one has its partner in the other.
-use mathlib.Core.Path.{_≡_, refl, subst⁻¹}
+use mathlib.Core.Path.{refl, subst⁻¹}
 use mathlib.Core.Logic.{⊎-elim}
-use mathlib.Core.List.{List, [], _∷_, List·Memᴰ, List·Memᴰ·head, List·Memᴰ·tail, List·Memᴰ·not-nil, List·Memᴰ·cases-cons, Forall₂, Forall₂·nil, Forall₂·cons}
+use mathlib.Core.List.{List, List·Memᴰ, List·Memᴰ·head, List·Memᴰ·tail, List·Memᴰ·not-nil, List·Memᴰ·cases-cons, Forall₂, Forall₂·nil, Forall₂·cons}
 
 module _ {A B : Type 0} {R : A → B → Type 0} where
   pub second : {a : A} {xs : List A} {ys : List B} → Forall₂ R xs ys → List·Memᴰ a xs → (b : B) × List·Memᴰ b ys × R a b

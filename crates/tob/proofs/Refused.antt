@@ -1,11 +1,11 @@
 -- Demand 1 of the static library: a call replies with a cause's number exactly if that cause is the first of its table that holds, and
 -- then it changes no lent byte.
-use mathlib.Core.Path.{_≡_, refl, ap, _∙_}
+use mathlib.Core.Path.{_≡_, refl, _∙_}
 use mathlib.Core.Bool.{Bool, true, false, not, _&&_}
 use mathlib.Core.Logic.{_↔_}
 use mathlib.Core.List.{List, [], _∷_}
 use Prim.Native.Nat.{ℕ}
-use lib.Dec.{T, eqb}
+use lib.Dec.{eqb}
 use lib.ListN.{length}
 use Rattle.galois.proofs.Cases.{is-true}
 use Rattle.code.specs.declared.settings.Settings.{Settings}
@@ -18,13 +18,13 @@ use Rattle.protocol.specs.Causes.{Found, nothing, cause, numberOf, check, agree
 use Rattle.protocol.specs.Calls.{openSenderOf, openReceiverOf, sendOf, movedOn, heardOf, lossOf}
 use Rattle.protocol.specs.Claim.{accepts}
 use Rattle.protocol.proofs.ReportRows.{moved-accepts}
-use Rattle.protocol.proofs.Refusals.{Row, First, firstOf, sendTable, lossTable, frameTable}
+use Rattle.protocol.proofs.Refusals.{Row, First, sendTable, lossTable, frameTable}
 use Rattle.layout.specs.State.{senderEnd, receiverEnd, stateLen, markOf, senderIn, receiverIn, stateCause}
 use Rattle.layout.specs.Numbers.{replyNumber, acceptance}
 use Rattle.layout.proofs.Refusals.{reply-accepted}
 use Rattle.layout.proofs.KeptStates.{uncaused-after}
 use Rattle.tob.specs.Causes.{openBytesCause, sendBytesCause, heardBytesCause, lostBytesCause}
-use Rattle.tob.specs.Calls.{settingsOf, Opening, openSenderBytes, openReceiverBytes, Sending, sendBytes, Reporting, heardBytes, lostBytes}
+use Rattle.tob.specs.Calls.{settingsOf, Opening, openSenderBytes, openReceiverBytes, sendBytes, Reporting, heardBytes, lostBytes}
 use Rattle.tob.proofs.Firsts.{first-found, RepliesBy, number-first}
 
 -- ---- the openings

@@ -40,6 +40,7 @@ FaithfulBytes sent told =
     (r : ReportDone) (f m : List ℕ) → List·Memᴰ r told → r .call ≡ heard f m → T (acceptance (r .after .reply))
     → (message : List ℕ) × SentAsBytes sent (r .due) message f
 
+-- what holds of two lists whose openings had the settings s
 pub record HoldsBytes (s : Settings) (sent : List SendDone) (told : List ReportDone) : Type 0 where
   -- a send replies 0 exactly when no listed cause holds
   pub sends-taken : (b : SendDone) → List·Memᴰ b sent

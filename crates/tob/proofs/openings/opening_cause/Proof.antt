@@ -2,7 +2,13 @@
 use borrow.Author.Needs.{needs}
 use borrow.Author.Tests.{eq-eqb, ne-eqb, not-true, not-false}
 use mathlib.Core.Path.{_≡_, sym, _∙_}
+use mathlib.Core.Bool.{true}
+use native.Mathlib.Omega.{arith}
+use denote.Ref.{now}
+use lib.ListN.{length}
+use Rattle.code.specs.Settings.{accepted}
 use Rattle.protocol.specs.Causes.{openCause}
+use Rattle.layout.specs.State.{stateLen}
 use Rattle.tob.proofs.openings.opening_cause.Statement.{statement}
 use Rattle.tob.proofs.openings.opening_cause.Tie as tie
 
@@ -10,23 +16,20 @@ returns : tie.Need-returns
 unfolding openCause
 returns c = rw (sym (c .before .accepted .ensures) ∙ not-true (c .before .accepted .result) (c .if1 .taken))
 
+-- where the first test passed
+abbrev start : tie.Else1 → tie.Start
+start c = c .before .before .before
+
+settled : (c : tie.Else1) → accepted (start c .args .s) ≡ true
+settled c = sym (c .before .accepted .ensures) ∙ not-false (c .before .accepted .result) (c .if1 .left)
+
 returns-2 : tie.Need-returns-2
 unfolding openCause
-returns-2 c =
-    let one = c .before in
-    rw (
-      sym (one .before .accepted .ensures) ∙ not-false (one .before .accepted .result) (one .if1 .left),
-      ne-eqb _ _ (c .if2 .taken),
-    )
+returns-2 c = rw (settled (c .before), ne-eqb (length (now (start (c .before) .args .state))) stateLen (λ e. omega arith))
 
 returns-3 : tie.Need-returns-3
 unfolding openCause
-returns-3 c =
-    let one = c .before in
-    rw (
-      sym (one .before .accepted .ensures) ∙ not-false (one .before .accepted .result) (one .if1 .left),
-      eq-eqb _ _ (c .if2 .left),
-    )
+returns-3 c = rw (settled (c .before), eq-eqb (length (now (start (c .before) .args .state))) stateLen (omega arith))
 
 pub opening-cause-spec : {M : Type 1} → statement M
 opening-cause-spec = tie.close (tie.spec (λ c κs. search needs) returns returns-2 returns-3)

@@ -4,11 +4,9 @@ use mathlib.Core.Path.{_≡_, sym, ap, ap₂, _∙_}
 use mathlib.Core.List.{List}
 use Prim.Native.Nat.{ℕ}
 use denote.Ref.{now}
-use lib.ListN.{length}
 use Rattle.code.specs.declared.settings.Settings.{Settings}
 use Rattle.protocol.specs.Causes.{nothing, openCause}
 use Rattle.protocol.specs.Calls.{openReceiverOf}
-use Rattle.protocol.proofs.CauseTables.{check-nothing, passes}
 use Rattle.causes.specs.Findings.{foundIn}
 use Rattle.layout.specs.State.{stateLen, settingsAt}
 use Rattle.tob.specs.Calls.{Opening}
