@@ -4,6 +4,7 @@ mod faults;
 mod openings;
 mod random;
 mod rows;
+mod title;
 
 use code::Settings;
 use protocol::Receiver;
@@ -137,7 +138,7 @@ fn play(
 
 // A scenario: its title, its buffers and all its calls.
 fn scenario(s: Settings, lent: bool, start: u32, x: &mut u64) {
-    trace::title(s, lent, start);
+    title::scenario(s, lent, start);
     let sent_end = room(protocol::sender_len(s), 32768);
     let received_end = room(protocol::receiver_len(s), 32768);
     let frame_end = room(protocol::frame_len(s), 1040);

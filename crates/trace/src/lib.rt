@@ -10,4 +10,3 @@ pub use lent::loss;
 pub use lent::open_receiver;
 pub use lent::open_sender;
 pub use lent::send;
-pub use print::title;

@@ -12,18 +12,13 @@ fn number(n: u64) {
     io::print_decimal(1, n);
 }
 
-// The settings but for the window.
-fn settings(s: Settings) {
+// The settings and the slot due.
+fn state(s: Settings, due: u32) {
+    number(s.window as u64);
     number(s.delay as u64);
     number(s.burst as u64);
     number(s.scattered as u64);
     number(s.lanes as u64);
-}
-
-// The settings and the slot due.
-fn state(s: Settings, due: u32) {
-    number(s.window as u64);
-    settings(s);
     number(due as u64);
 }
 
@@ -148,23 +143,5 @@ pub(crate) fn reported(word: &[u8], r: receiver::Reported, buffer: &[u8], rows: 
     state(x.settings, x.due);
     sum_of(buffer);
     sum_of(rows);
-    line_end();
-}
-
-// The kind of a scenario.
-fn kind(lent: bool) {
-    if lent {
-        io::write_all(1, b" lent");
-        return;
-    }
-    io::write_all(1, b" fresh");
-}
-
-// The first line of a scenario. It only prints: it is lent nothing and hands nothing back, so that no contract can say more.
-pub fn title(s: Settings, lent: bool, start: u32) {
-    io::write_all(1, b"scenario");
-    settings(s);
-    kind(lent);
-    number(start as u64);
     line_end();
 }

@@ -1,0 +1,34 @@
+// The first line of a scenario.
+use code::Settings;
+
+// A number, with a space before it.
+fn number(n: u64) {
+    io::write_all(1, b" ");
+    io::print_decimal(1, n);
+}
+
+// The settings but for the window.
+fn settings(s: Settings) {
+    number(s.delay as u64);
+    number(s.burst as u64);
+    number(s.scattered as u64);
+    number(s.lanes as u64);
+}
+
+// The kind of a scenario.
+fn kind(lent: bool) {
+    if lent {
+        io::write_all(1, b" lent");
+        return;
+    }
+    io::write_all(1, b" fresh");
+}
+
+// Its settings, its kind and the slot that it starts at.
+pub(crate) fn scenario(s: Settings, lent: bool, start: u32) {
+    io::write_all(1, b"scenario");
+    settings(s);
+    kind(lent);
+    number(start as u64);
+    io::write_all(1, b"\n");
+}
