@@ -9,7 +9,8 @@ use Rattle.protocol.specs.declared.Reply.{Reply}
 use Rattle.protocol.specs.declared.Reply.the-variants as reply
 use Rattle.protocol.specs.Causes.{numberOf}
 use Rattle.protocol.specs.Claim.{accepts}
-use Rattle.layout.specs.Numbers.{answerNumber, replyNumber, acceptance}
+use Rattle.protocol.specs.Numbers.{answerNumber, replyNumber}
+use Rattle.layout.specs.Numbers.{acceptance}
 
 -- no cause's
 pub cause-refused : (c : Cause) → acceptance (numberOf c) ≡ false

@@ -5,7 +5,8 @@ use protocol::Reply;
 ghost use mathlib.Core.Path.{_≡_};
 ghost use Rattle.protocol.specs.Causes.{numberOf};
 ghost use Rattle.protocol.specs.Claim.{accepts};
-ghost use Rattle.layout.specs.Numbers.{answerNumber, replyNumber, taken};
+ghost use Rattle.protocol.specs.Numbers.{answerNumber, replyNumber};
+ghost use Rattle.layout.specs.Numbers.{taken};
 
 // Document 01's number for a cause.
 pub fn number_of(c: Cause) -> u32

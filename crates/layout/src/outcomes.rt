@@ -11,7 +11,8 @@ use protocol::Reply;
 ghost use mathlib.Core.Path.{_≡_};
 ghost use lib.ListN.{length};
 ghost use Rattle.protocol.specs.Claim.{accepts};
-ghost use Rattle.layout.specs.Numbers.{answerNumber, replyNumber, taken};
+ghost use Rattle.protocol.specs.Numbers.{answerNumber, replyNumber};
+ghost use Rattle.layout.specs.Numbers.{taken};
 ghost use Rattle.layout.specs.State.{receiverEnd, stateLen, saved};
 
 // After an opening or a send.

@@ -34,7 +34,7 @@ abbrev isCause : Found → Bool
 isCause nothing = false
 isCause (cause c) = true
 
-found-first : (c : Cause) (rs : List Row) → firstOf rs ≡ cause c → First c rs
+pub found-first : (c : Cause) (rs : List Row) → firstOf rs ≡ cause c → First c rs
 found-first c [] e = absurd (subst⁻¹ (λ (f : Found). T (isCause f)) e tt)
 found-first c (r ∷ rs) e = go (found-first c rs) (r .holds) refl e
   where
@@ -42,7 +42,7 @@ found-first c (r ∷ rs) e = go (found-first c rs) (r .holds) refl e
     go rest true h e = here (subst⁻¹ T h tt) (ap (λ (f : Found). causeOr f c) e)
     go rest false h e = later (λ t. subst T h t) (rest e)
 
-first-found : (c : Cause) (rs : List Row) → First c rs → firstOf rs ≡ cause c
+pub first-found : (c : Cause) (rs : List Row) → First c rs → firstOf rs ≡ cause c
 first-found c (r ∷ rs) (here h e) = go (r .holds) h
   where
     go : (b : Bool) → T b → check b (r .why) (firstOf rs) ≡ cause c

@@ -15,7 +15,7 @@ use Rattle.protocol.specs.declared.Cause.{Cause}
 use Rattle.protocol.specs.Causes.{Found, nothing, cause, lossCause, frameCause}
 use Rattle.protocol.specs.Lengths.{lastSlot, senderLen, receiverLen}
 use Rattle.protocol.specs.Calls.{OpenedSender, OpenedReceiver, Sent, Reported, openSenderOf, openReceiverOf, sendOf, movedOn, lossOf, heardOf}
-use Rattle.protocol.specs.Claim.{accepts}
+use Rattle.protocol.specs.Histories.{accepts}
 use Rattle.protocol.specs.TwoLists.{Send, SendMade, sends, Report, heard, missed, reportOf, ReportMade, reports}
 use Rattle.protocol.proofs.CauseTables.{open-nothing}
 use Rattle.protocol.proofs.Sending as sending
@@ -24,7 +24,7 @@ use Rattle.protocol.proofs.ReportRows.{moved-accepts}
 use Rattle.protocol.proofs.ReportSteps as steps
 use Rattle.protocol.proofs.ReportChain as reporting
 use Rattle.layout.specs.State.{senderEnd, receiverEnd, stateBytes, saved, stateLen, settingsAt, senderIn, receiverIn, stateCause}
-use Rattle.layout.specs.Numbers.{answerNumber, replyNumber}
+use Rattle.protocol.specs.Numbers.{answerNumber, replyNumber}
 use Rattle.layout.proofs.KeptStates.{state-uncaused, sender-in-state, receiver-in-state}
 use Rattle.layout.proofs.Refusals.{cause-refused, reply-accepted}
 use Rattle.tob.specs.Calls.{settingsOf, Opening, openSenderBytes, openReceiverBytes, Sending, sendBytes, Reporting}

@@ -11,11 +11,13 @@ use Rattle.repair.specs.Fair.{Fair}
 use Rattle.protocol.specs.Lengths.{lastSlot}
 use Rattle.protocol.specs.Calls.{OpenedSender, OpenedReceiver, openSenderOf, openReceiverOf}
 use Rattle.protocol.specs.TwoLists.{Send, SendMade, sends, ReportMade, reports}
-use Rattle.protocol.specs.Claim.{SentAs, accepts, ofLoss, lostAt, Faithful, NoCause, Holds, Demand3}
+use Rattle.protocol.specs.Histories.{SentAs, accepts, ofLoss, lostAt}
+use Rattle.protocol.specs.Claim.{Faithful, NoCause, Holds, Demand3}
 use Rattle.protocol.proofs.Demand.{demand3}
 use Rattle.protocol.proofs.Sending as sending
 use Rattle.protocol.proofs.ReportChain as reporting
-use Rattle.layout.specs.Numbers.{answerNumber, replyNumber, acceptance}
+use Rattle.protocol.specs.Numbers.{answerNumber, replyNumber}
+use Rattle.layout.specs.Numbers.{acceptance}
 use Rattle.layout.proofs.Refusals.{reply-accepted, answer-accepted}
 use Rattle.tob.specs.Calls.{settingsOf, Opening, openSenderBytes, openReceiverBytes}
 use Rattle.tob.specs.Chains.{SendDone, sendsBytes, ReportDone, reportsBytes}

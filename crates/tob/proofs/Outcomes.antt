@@ -13,11 +13,12 @@ use Rattle.protocol.specs.declared.Cause.the-variants.{BadSettings, BadLength}
 use Rattle.protocol.specs.Lengths.{senderLen, receiverLen}
 use Rattle.protocol.specs.Causes.{Found, nothing, cause, numberOf, check, openCause, sendCause, lossCause, frameCause}
 use Rattle.protocol.specs.Calls.{OpenedSender, OpenedReceiver, Sent, Reported, openSenderOf, sendOf, openReceiverOf, movedOn, heardOf, lossOf}
-use Rattle.protocol.specs.Claim.{accepts}
+use Rattle.protocol.specs.Histories.{accepts}
 use Rattle.protocol.proofs.CauseTables.{check-nothing, passes}
 use Rattle.protocol.proofs.ReportRows.{moved-accepts}
 use Rattle.layout.specs.State.{senderEnd, receiverEnd, saved, stateLen, settingsAt, senderIn, receiverIn, stateCause}
-use Rattle.layout.specs.Numbers.{answerNumber, replyNumber, taken}
+use Rattle.protocol.specs.Numbers.{answerNumber, replyNumber}
+use Rattle.layout.specs.Numbers.{taken}
 use Rattle.layout.proofs.KeptStates.{caused-rest, uncaused-rest}
 use Rattle.tob.specs.Causes.{openBytesCause, sendBytesCause, heardBytesCause, lostBytesCause}
 use Rattle.tob.specs.Calls.{settingsOf, lengthFor, Opening, openSenderBytes, openReceiverBytes, Sending, sendBytes, Reporting, reportedBytes, heardBytes, lostBytes}

@@ -1,6 +1,6 @@
 -- Demand 1 of the static library: a call replies with a cause's number exactly if that cause is the first of its table that holds, and
 -- then it changes no lent byte.
-use mathlib.Core.Path.{_≡_, refl, _∙_}
+use mathlib.Core.Path.{_≡_, refl, ap, _∙_}
 use mathlib.Core.Bool.{Bool, true, false, not, _&&_}
 use mathlib.Core.Logic.{_↔_}
 use mathlib.Core.List.{List, [], _∷_}
@@ -14,26 +14,23 @@ use Rattle.protocol.specs.declared.Receiver.{Receiver}
 use Rattle.protocol.specs.declared.Cause.{Cause}
 use Rattle.protocol.specs.declared.Cause.the-variants.{BadSettings, BadLength}
 use Rattle.protocol.specs.Lengths.{senderLen, receiverLen}
-use Rattle.protocol.specs.Causes.{Found, nothing, cause, numberOf, check, agree, openCause, sendCause, lossCause, frameCause}
+use Rattle.protocol.specs.Causes.{Found, nothing, cause, numberOf, check, Row, openCause, sendCause, lossCause, frameCause}
 use Rattle.protocol.specs.Calls.{openSenderOf, openReceiverOf, sendOf, movedOn, heardOf, lossOf}
-use Rattle.protocol.specs.Claim.{accepts}
+use Rattle.protocol.specs.Histories.{accepts}
 use Rattle.protocol.proofs.ReportRows.{moved-accepts}
-use Rattle.protocol.proofs.Refusals.{Row, First, sendTable, lossTable, frameTable}
-use Rattle.layout.specs.State.{senderEnd, receiverEnd, stateLen, markOf, senderIn, receiverIn, stateCause}
-use Rattle.layout.specs.Numbers.{replyNumber, acceptance}
+use Rattle.protocol.specs.Refusals.{First}
+use Rattle.protocol.proofs.Refusals.{first-found}
+use Rattle.layout.specs.State.{senderEnd, receiverEnd, stateLen, senderIn, receiverIn, stateCause}
+use Rattle.protocol.specs.Numbers.{replyNumber}
+use Rattle.layout.specs.Numbers.{acceptance}
 use Rattle.layout.proofs.Refusals.{reply-accepted}
 use Rattle.layout.proofs.KeptStates.{uncaused-after}
 use Rattle.tob.specs.Causes.{openBytesCause, sendBytesCause, heardBytesCause, lostBytesCause}
-use Rattle.tob.specs.Calls.{settingsOf, Opening, openSenderBytes, openReceiverBytes, sendBytes, Reporting, heardBytes, lostBytes}
-use Rattle.tob.proofs.Firsts.{first-found, RepliesBy, number-first}
+use Rattle.tob.specs.Calls.{settingsOf, Opening, openSenderBytes, openReceiverBytes, Sending, sendBytes, Reporting, heardBytes, lostBytes}
+use Rattle.tob.specs.Refusals.{openBytesTable, sendBytesTable, heardBytesTable, lostBytesTable, RefusesBytes, Demand1Bytes}
+use Rattle.tob.proofs.Firsts.{RepliesBy, number-first}
 
 -- ---- the openings
-
-abbrev pub openBytesTable : Settings → ℕ → List ℕ → List ℕ → List Row
-openBytesTable s size state rows =
-    record { holds = not (accepted s); why = BadSettings }
-    ∷ record { holds = not (eqb (length state) stateLen && eqb (length rows) size); why = BadLength }
-    ∷ []
 
 module _ (settings state rows : List ℕ) where
   abbrev s : Settings
@@ -92,16 +89,6 @@ module _ (settings state rows : List ℕ) where
 
 -- ---- a send
 
--- the causes that a state's bytes give, and then the rest
-abbrev pub stateTable : ℕ → List ℕ → List Row → List Row
-stateTable end state rest =
-    record { holds = not (eqb (length state) stateLen); why = BadLength }
-    ∷ record { holds = not (agree 4 state (markOf end)); why = BadSettings }
-    ∷ rest
-
-abbrev pub sendBytesTable : List ℕ → List ℕ → List ℕ → List ℕ → List Row
-sendBytesTable state rows message frame = stateTable senderEnd state (sendTable (senderIn state) rows message frame)
-
 module _ (state rows message frame : List ℕ) where
   send-by : (f : Found) → sendBytesCause state rows message frame ≡ f → RepliesBy (sendBytes state rows message frame .reply) f
   unfolding sendBytes sendBytesCause sendOf
@@ -122,12 +109,6 @@ module _ (state rows message frame : List ℕ) where
   send-unchanged c h = rw (first-found c (sendBytesTable state rows message frame) h, sendBytes)
 
 -- ---- reports
-
-abbrev pub heardBytesTable : List ℕ → List ℕ → List ℕ → List ℕ → List Row
-heardBytesTable state rows frame message = stateTable receiverEnd state (frameTable (receiverIn state) rows frame message)
-
-abbrev pub lostBytesTable : List ℕ → List ℕ → List ℕ → List Row
-lostBytesTable state rows message = stateTable receiverEnd state (lossTable (receiverIn state) rows message)
 
 -- a report that moves the slot due on replies that it was accepted
 moved-reply : (x : Receiver) (row rows : List ℕ) → acceptance (replyNumber (movedOn x row rows .reply)) ≡ true
@@ -172,3 +153,40 @@ module _ (state rows message : List ℕ) where
   pub lost-unchanged : (c : Cause) → First c (lostBytesTable state rows message) → lostBytes state rows message ≡ unreported c
   unfolding lostBytes lostBytesCause stateCause lossCause
   lost-unchanged c h = rw (first-found c (lostBytesTable state rows message) h, lostBytes)
+
+-- ---- demand 1
+
+-- what a refusal leaves, read off the whole of it
+refuses : {table : List Row} {number : ℕ} {Stays : Type 0} → ((c : Cause) → (number ≡ numberOf c) ↔ First c table)
+    → ((c : Cause) → First c table → Stays) → RefusesBytes table number Stays
+refuses first as-it-was = record { first = first; stays = λ c e. as-it-was c (first c .0 e) }
+
+pub demand1-bytes : Demand1Bytes
+demand1-bytes =
+    record {
+      open-sender =
+          λ settings state rows. refuses (open-sender-refused settings state rows)
+          (λ c h.
+          let e = open-sender-unchanged settings state rows c h in
+          (ap (λ (r : Opening). r .state) e, ap (λ (r : Opening). r .rows) e));
+      open-receiver =
+          λ settings state rows. refuses (open-receiver-refused settings state rows)
+          (λ c h.
+          let e = open-receiver-unchanged settings state rows c h in
+          (ap (λ (r : Opening). r .state) e, ap (λ (r : Opening). r .rows) e));
+      send =
+          λ state rows message frame. refuses (send-refused state rows message frame)
+          (λ c h.
+          let e = send-unchanged state rows message frame c h in
+          (ap (λ (r : Sending). r .state) e, ap (λ (r : Sending). r .rows) e, ap (λ (r : Sending). r .frame) e));
+      heard =
+          λ state rows frame message. refuses (heard-refused state rows message frame)
+          (λ c h.
+          let e = heard-unchanged state rows message frame c h in
+          (ap (λ (r : Reporting). r .state) e, ap (λ (r : Reporting). r .rows) e, ap (λ (r : Reporting). r .message) e));
+      lost =
+          λ state rows message. refuses (lost-refused state rows message)
+          (λ c h.
+          let e = lost-unchanged state rows message c h in
+          (ap (λ (r : Reporting). r .state) e, ap (λ (r : Reporting). r .rows) e, ap (λ (r : Reporting). r .message) e));
+    }

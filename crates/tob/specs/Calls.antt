@@ -9,7 +9,7 @@ use Rattle.protocol.specs.Lengths.{senderLen, receiverLen}
 use Rattle.protocol.specs.Causes.{nothing, cause, numberOf}
 use Rattle.protocol.specs.Calls.{OpenedSender, OpenedReceiver, Sent, Reported, openSenderOf, sendOf, openReceiverOf, heardOf, lossOf}
 use Rattle.layout.specs.State.{senderEnd, receiverEnd, stateBytes, settingsAt, senderIn, receiverIn}
-use Rattle.layout.specs.Numbers.{answerNumber, replyNumber}
+use Rattle.protocol.specs.Numbers.{answerNumber, replyNumber}
 use Rattle.tob.specs.Causes.{openBytesCause, sendBytesCause, heardBytesCause, lostBytesCause}
 
 -- ---- lengths

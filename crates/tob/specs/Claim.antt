@@ -14,9 +14,11 @@ use Rattle.protocol.specs.declared.Answer.the-variants as answer
 use Rattle.protocol.specs.declared.Reply.the-variants as reply
 use Rattle.protocol.specs.Lengths.{lastSlot, messageLen, frameLen, senderLen, receiverLen}
 use Rattle.protocol.specs.TwoLists.{Send, Report, heard}
-use Rattle.protocol.specs.Claim.{Bytes, ofLoss, NoCause}
+use Rattle.protocol.specs.Histories.{Bytes, ofLoss}
+use Rattle.protocol.specs.Claim.{NoCause}
 use Rattle.layout.specs.State.{stateLen}
-use Rattle.layout.specs.Numbers.{answerNumber, replyNumber, acceptance}
+use Rattle.protocol.specs.Numbers.{answerNumber, replyNumber}
+use Rattle.layout.specs.Numbers.{acceptance}
 use Rattle.tob.specs.Calls.{settingsOf, Opening, openSenderBytes, openReceiverBytes}
 use Rattle.tob.specs.Chains.{SendDone, sendsBytes, ReportDone, reportsBytes}
 

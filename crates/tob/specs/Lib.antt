@@ -1,5 +1,6 @@
--- The static library's calls, one by one and in lists, and demand 3 about them.
+-- The static library's calls, one by one and in lists, and demands 1 and 3 about them.
 pub mod Causes
 pub mod Calls
 pub mod Chains
+pub mod Refusals
 pub mod Claim
