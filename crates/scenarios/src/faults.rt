@@ -6,7 +6,18 @@ use protocol::Sender;
 use trace::Call;
 ghost use Prim.Native.Nat.{_≤_, _<_};
 
-// The settings broken in one of six ways.
+// The settings with another window, delay and burst, and one scattered loss, where n is 17.
+fn seventeen(s: Settings, window: u8, delay: u8, burst: u8) -> Settings {
+    Settings {
+        window: window,
+        delay: delay,
+        burst: burst,
+        scattered: 1,
+        lanes: s.lanes,
+    }
+}
+
+// The settings broken in one of eight ways.
 pub(crate) fn broken(s: Settings, way: usize) -> Settings {
     let mut out = s;
     match way {
@@ -25,8 +36,14 @@ pub(crate) fn broken(s: Settings, way: usize) -> Settings {
         4 => {
             out.lanes = 0;
         }
-        _ => {
+        5 => {
             out.lanes = 65;
+        }
+        6 => {
+            out = seventeen(s, 16, 15, 2);
+        }
+        _ => {
+            out = seventeen(s, 10, 9, 8);
         }
     }
     out
@@ -37,7 +54,7 @@ fn settings(s: Settings, faults: usize, x: &mut u64) -> Settings {
     if faults % 2 == 0 {
         return s;
     }
-    let way = random::below(x, 6);
+    let way = random::below(x, 8);
     broken(s, way)
 }
 

@@ -1,4 +1,4 @@
-// The ten openings of an end: nine with something wrong, and the true one.
+// The twelve openings of an end: eleven with something wrong, and the true one.
 use crate::faults;
 use crate::random;
 use code::Settings;
@@ -8,8 +8,8 @@ use protocol::Sender;
 // The settings of a wrong opening.
 fn settings(s: Settings, r: usize, x: &mut u64) -> Settings {
     match r {
-        6 | 7 => s,
-        8 => faults::broken(s, random::below(x, 6)),
+        8 | 9 => s,
+        10 => faults::broken(s, random::below(x, 8)),
         _ => faults::broken(s, r),
     }
 }
@@ -17,8 +17,8 @@ fn settings(s: Settings, r: usize, x: &mut u64) -> Settings {
 // What is not lent of the rows in a wrong opening.
 fn cut(r: usize) -> usize {
     match r {
-        6 | 8 => 2,
-        7 => 0,
+        8 | 10 => 2,
+        9 => 0,
         _ => 1,
     }
 }
@@ -26,7 +26,7 @@ fn cut(r: usize) -> usize {
 // The openings of the sender.
 pub(crate) fn of_sender(s: Settings, rows: &mut [u8], x: &mut u64) -> Sender {
     let mut r: usize = 0;
-    while r < 9 {
+    while r < 11 {
         trace::open_sender(settings(s, r, x), cut(r), rows);
         r += 1;
     }
@@ -36,7 +36,7 @@ pub(crate) fn of_sender(s: Settings, rows: &mut [u8], x: &mut u64) -> Sender {
 // The openings of the receiver.
 pub(crate) fn of_receiver(s: Settings, rows: &mut [u8], x: &mut u64) -> Receiver {
     let mut r: usize = 0;
-    while r < 9 {
+    while r < 11 {
         trace::open_receiver(settings(s, r, x), cut(r), rows);
         r += 1;
     }

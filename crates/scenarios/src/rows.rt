@@ -1,7 +1,7 @@
 // What is done to lent rows behind the receiver's back.
 use crate::random;
 use code::Settings;
-ghost use Prim.Native.Nat.{_≤_, _<_};
+ghost use Prim.Native.Nat.{_<_};
 
 // A flag of rows drawn anew: mostly 7.
 fn any_flag(x: &mut u64) -> u8 {

@@ -1,4 +1,4 @@
-// The first line of a scenario.
+// The first line of the figures and of each scenario.
 use code::Settings;
 
 // A number, with a space before it.
@@ -24,7 +24,14 @@ fn kind(lent: bool) {
     io::write_all(1, b" fresh");
 }
 
-// Its settings, its kind and the slot that it starts at.
+// The figures' settings.
+pub(crate) fn figures(s: Settings) {
+    io::write_all(1, b"figures");
+    settings(s);
+    io::write_all(1, b"\n");
+}
+
+// A scenario's settings, its kind and the slot that it starts at.
 pub(crate) fn scenario(s: Settings, lent: bool, start: u32) {
     io::write_all(1, b"scenario");
     settings(s);

@@ -55,7 +55,9 @@ pub record Sending : Type 0 where
 -- a send, in which the message and then the frame are cut after the rows
 unfoldable pub sendCut : Call → List ℕ → List ℕ → List ℕ → Sending
 sendCut c rows message frame =
-    let o = sendOf (record { settings = c .settings; due = c .due }) (before (c .rows) rows) (before (c .first) message) (before (c .second) frame) in
+    let o =
+    sendOf (record { settings = c .settings; due = c .due }) (before (c .rows) rows) (before (c .first) message)
+    (before (c .second) frame) in
     record { sender = o .sender; rows = o .rows ++ behind (c .rows) rows; frame = o .frame ++ behind (c .second) frame }
 
 -- ---- reports
@@ -74,7 +76,8 @@ reportCut o rows buffer = record { receiver = o .receiver; rows = o .rows ++ row
 unfoldable pub heardCut : Call → List ℕ → List ℕ → List ℕ → Reporting
 heardCut c rows frame buffer =
     reportCut
-    (heardOf (record { settings = c .settings; due = c .due }) (before (c .rows) rows) (before (c .first) frame) (before (c .second) buffer))
+    (heardOf (record { settings = c .settings; due = c .due }) (before (c .rows) rows) (before (c .first) frame)
+    (before (c .second) buffer))
     (behind (c .rows) rows)
     (behind (c .second) buffer)
 

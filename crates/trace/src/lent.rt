@@ -5,20 +5,23 @@ use code::Settings;
 use protocol::Receiver;
 use protocol::Sender;
 ghost use mathlib.Core.Path.{_≡_};
+ghost use mathlib.Core.Bool.{false};
 ghost use Rattle.trace.specs.Cuts.{endOf, openSenderCut, openReceiverCut, sendCut, heardCut, lossCut};
 
-// The state that a call starts from, and what is not lent of the rows and of the two things after them.
+// The state that a call starts from, and what is not lent of the rows and of the two things after them. Its line has sums of bytes, or
+// shows the bytes.
 pub struct Call {
     pub settings: Settings,
     pub due: u32,
     pub rows: usize,
     pub first: usize,
     pub second: usize,
+    pub shown: bool,
 }
 
 // A call with everything of exact length.
 pub fn exact(s: Settings, slot: u32) -> Call
-    ensures { λ r. ⌜ r ≡ record { settings = s; due = slot; rows = 1; first = 1; second = 1 } ⌝ }
+    ensures { λ r. ⌜ r ≡ record { settings = s; due = slot; rows = 1; first = 1; second = 1; shown = false } ⌝ }
 {
     Call {
         settings: s,
@@ -26,6 +29,7 @@ pub fn exact(s: Settings, slot: u32) -> Call
         rows: 1,
         first: 1,
         second: 1,
+        shown: false,
     }
 }
 
@@ -61,7 +65,10 @@ pub fn open_receiver(s: Settings, cut: usize, rows: &mut [u8]) -> Receiver
 
 // A send.
 pub fn send(call: Call, rows: &mut [u8], message: &[u8], frame: &mut [u8]) -> Sender
-    ensures { λ r. ⌜ record { sender = r; rows = now (rows .exit); frame = now (frame .exit) } ≡ sendCut call (now (rows .entry)) (now (message .entry)) (now (frame .entry)) ⌝ }
+    ensures { λ r. ⌜
+        record { sender = r; rows = now (rows .exit); frame = now (frame .exit) }
+        ≡ sendCut call (now (rows .entry)) (now (message .entry)) (now (frame .entry))
+        ⌝ }
 {
     let s = call.settings;
     let x = Sender {
@@ -77,13 +84,16 @@ pub fn send(call: Call, rows: &mut [u8], message: &[u8], frame: &mut [u8]) -> Se
         &message[0..message_end],
         &mut frame[0..frame_end],
     );
-    print::sent(sent, frame, rows);
+    print::sent(sent, call.shown, frame, rows);
     sent.sender
 }
 
 // The report of a frame.
 pub fn heard(call: Call, rows: &mut [u8], frame: &[u8], buffer: &mut [u8]) -> Receiver
-    ensures { λ r. ⌜ record { receiver = r; rows = now (rows .exit); buffer = now (buffer .exit) } ≡ heardCut call (now (rows .entry)) (now (frame .entry)) (now (buffer .entry)) ⌝ }
+    ensures { λ r. ⌜
+        record { receiver = r; rows = now (rows .exit); buffer = now (buffer .exit) }
+        ≡ heardCut call (now (rows .entry)) (now (frame .entry)) (now (buffer .entry))
+        ⌝ }
 {
     let s = call.settings;
     let x = Receiver {
@@ -99,13 +109,16 @@ pub fn heard(call: Call, rows: &mut [u8], frame: &[u8], buffer: &mut [u8]) -> Re
         &frame[0..frame_end],
         &mut buffer[0..buffer_end],
     );
-    print::reported(b"frame", reported, buffer, rows);
+    print::reported(b"frame", reported, call.shown, buffer, rows);
     reported.receiver
 }
 
 // The report of a loss.
 pub fn loss(call: Call, rows: &mut [u8], buffer: &mut [u8]) -> Receiver
-    ensures { λ r. ⌜ record { receiver = r; rows = now (rows .exit); buffer = now (buffer .exit) } ≡ lossCut call (now (rows .entry)) (now (buffer .entry)) ⌝ }
+    ensures { λ r. ⌜
+        record { receiver = r; rows = now (rows .exit); buffer = now (buffer .exit) }
+        ≡ lossCut call (now (rows .entry)) (now (buffer .entry))
+        ⌝ }
 {
     let s = call.settings;
     let x = Receiver {
@@ -115,6 +128,6 @@ pub fn loss(call: Call, rows: &mut [u8], buffer: &mut [u8]) -> Receiver
     let rows_end = end(rows.len(), call.rows);
     let buffer_end = end(buffer.len(), call.first);
     let reported = receiver::loss(x, &mut rows[0..rows_end], &mut buffer[0..buffer_end]);
-    print::reported(b"loss", reported, buffer, rows);
+    print::reported(b"loss", reported, call.shown, buffer, rows);
     reported.receiver
 }

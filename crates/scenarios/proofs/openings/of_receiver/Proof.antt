@@ -1,4 +1,4 @@
--- The loop counts to nine.
+-- The loop counts to eleven.
 use borrow.Author.Needs.{needs}
 use mathlib.Core.Path.{_≡_, refl}
 use native.Mathlib.Omega.{arith}
@@ -8,10 +8,10 @@ use Rattle.scenarios.proofs.openings.of_receiver.Statement.{statement}
 use Rattle.scenarios.proofs.openings.of_receiver.Tie as tie
 
 abbrev Inv-loop : tie.InvT-loop
-Inv-loop s rows₀ x₀ r₀ rows x r = (r ≤ 9) × (length rows ≡ length rows₀)
+Inv-loop s rows₀ x₀ r₀ rows x r = (r ≤ 11) × (length rows ≡ length rows₀)
 
 abbrev μ-loop : tie.MeasureT-loop
-μ-loop s rows₀ x₀ r₀ rows x r = 9 - r
+μ-loop s rows₀ x₀ r₀ rows x r = 11 - r
 
 pub of-receiver-spec : {M : Type 1} → statement M
 of-receiver-spec =

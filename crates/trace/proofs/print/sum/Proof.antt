@@ -1,6 +1,5 @@
 -- The loop stays inside the slice, and both sums below 65521.
 use borrow.Author.Needs.{needs}
-use native.Mathlib.Nat.{mod-lt}
 use native.Mathlib.Omega.{arith}
 use Prim.Native.Nat.{_≤_, _<_}
 use lib.ListN.{length}
