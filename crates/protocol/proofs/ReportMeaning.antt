@@ -112,7 +112,7 @@ accepted-moves x rows (missed message) ok = go (lossCause x rows message) refl
 -- - lost, or none yet, without a look at later frames: 18 is told by what arrived up to slot t + T, and 16 below slot T alone
 -- - a fixed message, or the last one repeated: whole has the bytes that the fitting words of message t share, for every t
 -- - zero parity at both ends: the words are those of G
--- - a loss that leaves its row, or an opening that leaves the rows: `by-history` has every row that is looked at
+-- - a loss that leaves its row, or slots before 0 lost: `by-history` has every position known exactly as it came
 pub demand2-verdict : Demand2Verdict
 demand2-verdict = record {
   by-rows = λ x rows call ok.

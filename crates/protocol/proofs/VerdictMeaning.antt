@@ -29,24 +29,20 @@ use Rattle.protocol.specs.Meaning.{Fitting, SomeClash, SomeLost, Share, 
 abbrev byTests : Bool → Bool → Reply
 byTests a b = cond a reply.Clash (cond b reply.Lost reply.Whole)
 
--- two replies with other numbers
-unlike : {x y : Reply} → (replyNumber x ≡ replyNumber y → ⊥) → {A : Type 0} → x ≡ y → A
-unlike n e = absurd (n (ap replyNumber e))
-
 -- the first test passes; else the second; else neither
 first : (a b : Bool) → (byTests a b ≡ reply.Clash) ↔ T a
 first true b = (λ e. tt, λ h. refl)
-first false true = (unlike (λ n. omega arith), λ h. absurd h)
-first false false = (unlike (λ n. omega arith), λ h. absurd h)
+first false true = (λ e. absurd (let z : _≡_ {A = ℕ} 0 1 = cc in omega arith), λ h. absurd h)
+first false false = (λ e. absurd (let z : _≡_ {A = ℕ} 0 1 = cc in omega arith), λ h. absurd h)
 
 second : (a b : Bool) → (byTests a b ≡ reply.Lost) ↔ ((T a → ⊥) × T b)
-second true b = (unlike (λ n. omega arith), λ x. absurd (x .0 tt))
+second true b = (λ e. absurd (let z : _≡_ {A = ℕ} 0 1 = cc in omega arith), λ x. absurd (x .0 tt))
 second false true = (λ e. ((λ h. h), tt), λ x. refl)
-second false false = (unlike (λ n. omega arith), λ x. absurd (x .1))
+second false false = (λ e. absurd (let z : _≡_ {A = ℕ} 0 1 = cc in omega arith), λ x. absurd (x .1))
 
 third : (a b : Bool) → (byTests a b ≡ reply.Whole) ↔ ((T a → ⊥) × (T b → ⊥))
-third true b = (unlike (λ n. omega arith), λ x. absurd (x .0 tt))
-third false true = (unlike (λ n. omega arith), λ x. absurd (x .1 tt))
+third true b = (λ e. absurd (let z : _≡_ {A = ℕ} 0 1 = cc in omega arith), λ x. absurd (x .0 tt))
+third false true = (λ e. absurd (let z : _≡_ {A = ℕ} 0 1 = cc in omega arith), λ x. absurd (x .1 tt))
 third false false = (λ e. ((λ h. h), λ h. h), λ x. refl)
 
 module _ (s : Settings) (rows : List ℕ) (due t : ℕ) where
