@@ -27,9 +27,6 @@ use Rattle.lanes.proofs.Shares.{front-length, front-lane, Shared, weigh
 abbrev pub unlike : ℕ → ℕ → Bool
 unlike a b = not (eqb a b)
 
-pub unlike-passes : (a b : ℕ) → a ≢ b → T (unlike a b)
-unlike-passes a b ne = subst⁻¹ (λ (e : Bool). T (not e)) (ne-eqb a b ne) tt
-
 pub unlike-differs : (a b : ℕ) → T (unlike a b) → a ≢ b
 unlike-differs a b t e = subst (λ (e : Bool). T (not e)) (eq-eqb a b e) t
 

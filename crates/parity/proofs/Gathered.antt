@@ -25,6 +25,7 @@ use Rattle.code.proofs.Shape.{Shape}
 use Rattle.protocol.specs.Frame.{remembered}
 use Rattle.protocol.specs.Lengths.{messageLen}
 use Rattle.parity.specs.Gathering.{pairsOf, sourceIn, pairPut, rowOf, gatheredOf}
+use Rattle.parity.specs.Parities.{parityOf}
 use Rattle.parity.proofs.SystematicSums.{symbol-systematic}
 
 -- there are at most 8 pairs
@@ -193,9 +194,8 @@ module _ (s : Settings) (rows : List ℕ) (t p : ℕ) (pairs : List (List ℕ)) 
 
       -- and the first lanes of the sum by column p of the systematic form are the parity symbols of position p
       pub parity-symbols : accepted s ≡ true
-          → take (s .lanes) (weightedOf (systematicOf s) p (gathered (pairsOf s)) (pairsOf s))
-          ≡ table (s .lanes) (λ v. symbol s (λ i. remembered s rows t (p - i) i v) p)
-      unfolding weightedOf remembered pairsOf
+          → take (s .lanes) (weightedOf (systematicOf s) p (gathered (pairsOf s)) (pairsOf s)) ≡ parityOf s rows t p
+      unfolding parityOf weightedOf remembered pairsOf
       parity-symbols passed =
           let all : List (List ℕ) = gathered (pairsOf s) in
           let lane : ℕ → ℕ = λ v. sum (pairsOf s * 2) (λ i. getD (getD (systematicOf s) i []) p 0 ⊗ getD (vectorOf all i) v 0) in

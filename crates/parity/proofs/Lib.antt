@@ -2,3 +2,4 @@
 pub mod Places
 pub mod SystematicSums
 pub mod Gathered
+pub mod Parities

@@ -1,2 +1,3 @@
--- The source symbols that a parity symbol is the sum of.
+-- The source symbols that a parity symbol is the sum of, and the parity symbols of a frame.
 pub mod Gathering
+pub mod Parities

@@ -1,4 +1,3 @@
 -- What the proofs of the functions cite.
-pub mod Places
 pub mod Bodies
 pub mod Outcomes

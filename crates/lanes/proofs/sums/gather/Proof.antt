@@ -2,7 +2,7 @@
 use borrow.Author.Needs.{needs}
 use mathlib.Core.Path.{_≡_, refl, ap, _∙_, subst⁻¹}
 use native.Mathlib.Omega.{arith}
-use Prim.Native.Nat.{ℕ, _-_, _≤_, _<_}
+use Prim.Native.Nat.{ℕ, _-_, _≤_}
 use denote.Ref.{now}
 use Rattle.vectors.specs.Pairs.{Wide}
 use Rattle.code.proofs.Shape.{Shape, shape}
@@ -34,11 +34,10 @@ put-pair-requires c κs =
     let at = c .before .before .loop in
     let start = c .before .before .before .before .before in
     let a = start .args in
-    let h = at .inv .0 in
-    let few : at .j < 8 = omega arith in (
+    let h = at .inv .0 in (
       start .pre .0,
       start .pre .1,
-      few,
+      omega arith,
       subst⁻¹ Wide (at .inv .2)
           (gathered-wide (a .s) (now (a .roles)) (now (a .places)) (now (a .bytes)) h (now (a .pairs)) (start .pre .2) (at .j) (omega arith)),
     )

@@ -3,7 +3,7 @@ use borrow.Author.Tests.{eq-eqb, ne-eqb}
 use mathlib.Core.Path.{_≡_, sym, ap, _∙_}
 use Prim.Native.Nat.{ℕ}
 use lib.Dec.{eqb}
-use Rattle.protocol.specs.Lengths.{messageLen, frameLen, senderLen}
+use Rattle.protocol.specs.Lengths.{messageLen, senderLen}
 use Rattle.sender.proofs.lengths.exact.Statement.{statement}
 use Rattle.sender.proofs.lengths.exact.Tie as tie
 
