@@ -2,7 +2,6 @@
 
 use crate::cases::{Operation, OPERATIONS};
 use crate::engine::Engine;
-use crate::measure::Times;
 use crate::shapes::{Shape, SHAPES};
 use crate::table::{beside, unit, Line, EARLY};
 
@@ -33,22 +32,18 @@ pub fn against_plain(lines: &[Line]) {
     }
 }
 
-/// Each send at most 10 units, each report at most 50, by medians.
+/// Each send of ours at most 3 units, each report at most 6, by medians.
 pub fn in_units(lines: &[Line]) {
     let Some(unit) = unit(lines) else {
         return println!("\nWithout jerasure there is no unit to judge by.");
     };
     println!("\nA unit is jerasure's encoding of (8, 8) vectors of 64 bytes, here {unit} ns; by medians (p10–p90):\n");
-    let [ours, plain]: [fn(&Line) -> Option<Times>; 2] = [|line| line.ours, |line| Some(line.plain)];
-    for (version, time) in [("ours", ours), ("plain", plain)] {
-        for (send, most) in [(true, 10.0), (false, 50.0)] {
-            let these = lines.iter().filter(|line| (line.operation == Operation::Send) == send);
-            let worst = these.filter_map(time).max_by(|a, b| a.median.total_cmp(&b.median));
-            if let Some(worst) = worst {
-                let (what, units) = (if send { "send" } else { "report" }, worst.median / unit.median);
-                let text = format!("{version}: the slowest {what} takes {worst} ns, {units:.2} units, at most {most}");
-                say(units <= most, &text);
-            }
+    for (send, most) in [(true, 3.0), (false, 6.0)] {
+        let these = lines.iter().filter(|line| (line.operation == Operation::Send) == send);
+        let worst = these.filter_map(|line| line.ours).max_by(|a, b| a.median.total_cmp(&b.median));
+        if let Some(worst) = worst {
+            let (what, units) = (if send { "send" } else { "report" }, worst.median / unit.median);
+            say(units <= most, &format!("the slowest {what} takes {worst} ns, {units:.2} units, at most {most}"));
         }
     }
 }
