@@ -27,7 +27,8 @@ loop-holds : tie.Need-loop-holds Inv-loop μ-loop
 unfolding gatheredOf
 loop-holds c =
     let start = c .before .before in
-    (shape (start .args .s) (start .pre .0 .settings), omega arith, refl)
+    let h = shape (start .args .s) (start .pre .0 .settings) in
+    (h, omega arith, refl)
 
 put-pair-requires : tie.Need-put-pair-requires Inv-loop μ-loop
 put-pair-requires c κs =
