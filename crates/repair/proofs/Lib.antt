@@ -13,4 +13,5 @@ pub mod BurstLoss
 pub mod ScatteredLoss
 pub mod OneCodeword
 pub mod Window
+pub mod FairTest
 pub mod FairExample

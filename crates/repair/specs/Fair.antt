@@ -27,6 +27,11 @@ abbrev pub Fair : Settings → (ℕ → Bool) → ℕ → ℕ → Type 0
 Fair s lost low high =
     (a m : ℕ) → low ≤ a → a + m ≤ high + 1 → m ≤ s .window → T (fairStretch s lost a m)
 
+-- the same as a test: of each length up to W, each stretch among the slots low to high is fair
+unfoldable pub fairSlots : Settings → (ℕ → Bool) → ℕ → ℕ → Bool
+fairSlots s lost low high =
+    every (s .window + 1) (λ m. every (high + 2 - low - m) (λ x. fairStretch s lost (low + x) m))
+
 -- position p of the codeword that starts at slot t - i was lost; a slot before 0 was not
 unfoldable pub lostPosition : (ℕ → Bool) → ℕ → ℕ → ℕ → Bool
 lostPosition lost t i p = leb i (t + p) && lost (t + p - i)
