@@ -1,28 +1,28 @@
--- The rows tell the truth: what arrived of each codeword is what was heard of it.
-use mathlib.Core.Path.{_≡_, sym, ap, _∙_, subst}
-use mathlib.Core.Bool.{Bool, true, false, true≢false}
+-- The rows tell the truth: what arrived of each codeword in the slots reported so far is what was heard of it.
+use mathlib.Core.Path.{_≡_, refl, sym, ap, _∙_, subst, subst⁻¹}
+use mathlib.Core.Bool.{Bool, false, true≢false}
 use mathlib.Core.List.{List, _∷_}
 use mathlib.Core.Logic.{_↔_, ⊎-elim}
 use Prim.Native.Nat.{ℕ, suc, _+_, _-_, _*_, _≤_, _<_}
 use native.Mathlib.Nat.{mul-le-mul-right, suc-mul}
 use native.Mathlib.Omega.{arith}
-use lib.Dec.{T, eqb, eqb→eq, eqb-refl, ltb→lt, lt→ltb}
+use lib.Dec.{T, eqb, eqb→eq, eqb-refl, ltb, ltb→lt, lt→ltb}
 use lib.ListN.{getD, drop, replicate, length-replicate, getD-replicate, List·getD-eq-default}
 use lib.Seq.{getD-drop}
-use borrow.Author.Tests.{le-leb, lt-leb}
+use borrow.Author.Tests.{le-leb}
 use Rattle.galois.proofs.Cases.{and-left, and-right, both-pass, le-or-lt}
 use Rattle.code.specs.declared.settings.Settings.{Settings}
 use Rattle.code.specs.Settings.{delayOf, kOf, nOf}
-use Rattle.code.specs.Fitting.{Arrived}
 use Rattle.repair.specs.Fair.{lostPosition}
 use Rattle.protocol.specs.Lengths.{bodyLen, rowLen}
 use Rattle.protocol.specs.Verdict.{rowAt, arrived, reportedAt}
 use Rattle.protocol.specs.Calls.{receivedZeros}
-use Rattle.protocol.specs.TwoLists.{Report, heard, missed, ReportMade, rowOf}
-use Rattle.protocol.specs.Histories.{ReportedAs, Heard, lostAt}
+use Rattle.protocol.specs.TwoLists.{heard, ReportMade, rowOf}
 use Rattle.protocol.specs.Meaning.{Came}
-use Rattle.protocol.proofs.SlotReports.{heard-kept, lost-as}
-use Rattle.protocol.proofs.SlotRows.{Telling, row-early, row-late, flag-early, flag-late, slot-report}
+use Rattle.protocol.proofs.Receipts.{due-from}
+use Rattle.protocol.proofs.SlotReports.{lostSince}
+use Rattle.protocol.proofs.ReceivedRows.{Reached, rowBefore}
+use Rattle.protocol.proofs.SlotRows.{slotRow, row-says, flag-says, row-reported, row-early, Became, became}
 
 -- position p of lane v stands in a row
 in-row : (s : Settings) (p v : ℕ) → p < nOf s → v < s .lanes → 1 + (p * s .lanes + v) < rowLen s
@@ -38,128 +38,82 @@ zero-at m q =
     ⊎-elim (λ past. List·getD-eq-default (replicate m 0) 0 (omega (arith, length-replicate {A = ℕ} m 0)))
     (λ inside. getD-replicate m q 0 0 inside) (le-or-lt m q)
 
--- a slot before 0 was not lost, and another was as the test says
-position-early : (lost : ℕ → Bool) (t i p : ℕ) → t + p < i → lostPosition lost t i p ≡ false
-unfolding lostPosition
-position-early lost t i p h = rw (lt-leb i (t + p) h)
-
+-- a position from slot 0 on was lost as its slot was
 position-late : (lost : ℕ → Bool) (t i p : ℕ) → i ≤ t + p → lostPosition lost t i p ≡ lost (t + p - i)
 unfolding lostPosition
 position-late lost t i p h = rw (le-leb i (t + p) h)
 
--- once slot t + T is reported, the positions up to i + T have come, and no other
-in-time : (s : Settings) (t i p : ℕ) → p ≤ i + delayOf s → T (reportedAt (t + delayOf s + 1) t i p)
-unfolding reportedAt
-in-time s t i p h = lt→ltb (t + p) (t + delayOf s + 1 + i) (omega arith)
+-- the byte of lane v at position p, in a row of received zeros and in that of a frame
+early-byte : (s : Settings) (q : ℕ) → getD (receivedZeros s) (1 + q) 0 ≡ 0
+unfolding receivedZeros
+early-byte s q = ap (λ (j : ℕ). getD (1 ∷ replicate (bodyLen s) 0) j 0) (one-add q) ∙ zero-at (bodyLen s) q
 
-time-in : (s : Settings) (t i p : ℕ) → T (reportedAt (t + delayOf s + 1) t i p) → p ≤ i + delayOf s
-unfolding reportedAt
-time-in s t i p k = omega (arith, ltb→lt (t + p) (t + delayOf s + 1 + i) k)
+heard-byte : (f : List ℕ) (q : ℕ) → getD (1 ∷ drop 14 f) (1 + q) 0 ≡ getD f (14 + q) 0
+heard-byte f q = ap (λ (j : ℕ). getD (1 ∷ drop 14 f) j 0) (one-add q) ∙ getD-drop 14 f q 0
 
--- what the rows say, after report r of slot t + T, of the codeword of lane v that starts at slot t - i
-abbrev pub seen : Settings → ReportMade → ℕ → ℕ → ℕ → Arrived
-seen s r t i v = arrived s (r .after .rows) (t + delayOf s + 1) t i v
+-- ---- by what became of its slot
 
-module _ {s : Settings} {told : List ReportMade} {r : ReportMade} {t : ℕ} (c : Telling s told r t) (i p v : ℕ) (hi : i < kOf s) where
-  -- in time, and the row says received
-  known-from : p ≤ i + delayOf s → getD (r .after .rows) (rowAt s t i p) 0 ≡ 1
-      → T (seen s r t i v .known p)
-  unfolding arrived
-  known-from hp e =
-      both-pass (reportedAt (t + delayOf s + 1) t i p) (eqb (getD (r .after .rows) (rowAt s t i p) 0) 1)
-      (in-time s t i p hp) (rw e (eqb-refl 1))
+module _ {s : Settings} {d : ℕ} {told : List ReportMade} {t i p : ℕ} where
+  -- a slot that was not lost has a row that says received
+  kept-flag : {l : List ℕ} → Became s d told t i p l → lostPosition (lostSince d told) t i p ≡ false → getD l 0 0 ≡ 1
+  unfolding receivedZeros
+  kept-flag (Became.early h) kept = refl
+  kept-flag (Became.lost late gone) kept = absurd (true≢false (sym (position-late (lostSince d told) t i p late ∙ gone) ∙ kept))
+  kept-flag (Became.heard f late h) kept = refl
 
-  known-late : i ≤ t + p → p ≤ i + delayOf s → (call : Report) → ReportedAs told (t + p - i) call → lostPosition (lostAt told) t i p ≡ false
-      → T (seen s r t i v .known p)
-  unfolding rowOf
-  known-late h hp (heard f m) a kept = known-from hp (flag-late c i p hi h hp (heard f m) a)
-  known-late h hp (missed m) a kept =
-      let gone : lostPosition (lostAt told) t i p ≡ true
-      = position-late (lostAt told) t i p h ∙ lost-as (c .chain) (t + p - i) (missed m) a in
-      absurd (true≢false (sym gone ∙ kept))
+  -- a row that says received holds what came
+  flag-came : (v : ℕ) {l : List ℕ} → Became s d told t i p l → getD l 0 0 ≡ 1 → Came s told t i v p (getD l (1 + (p * s .lanes + v)) 0)
+  flag-came v (Became.early h) one = subst⁻¹ (Came s told t i v p) (early-byte s (p * s .lanes + v)) (Came.early h)
+  flag-came v (Became.lost late gone) one = absurd (let z : _≡_ {A = ℕ} 0 1 = sym (zero-at (rowLen s) 0) ∙ one in omega arith)
+  flag-came v (Became.heard f late h) one =
+      subst⁻¹ (Came s told t i v p) (heard-byte f (p * s .lanes + v)) (Came.heard f late h)
 
-  -- a position that came in time and was not lost is known
-  pub known-if : p ≤ i + delayOf s → lostPosition (lostAt told) t i p ≡ false
-      → T (seen s r t i v .known p)
-  known-if hp kept =
-      ⊎-elim (λ late. let found = slot-report c i p hi late hp in known-late late hp (found .0) (found .1) kept)
-      (λ early. known-from hp (flag-early c i p hi early)) (le-or-lt i (t + p))
+-- ---- what the rows say of message t, while it can be told, of the codeword of lane v that starts at slot t - i
 
-  known-in-time : T (seen s r t i v .known p) → p ≤ i + delayOf s
-  unfolding arrived
-  known-in-time k =
-      time-in s t i p (and-left (reportedAt (t + delayOf s + 1) t i p) (eqb (getD (r .after .rows) (rowAt s t i p) 0) 1) k)
+module _ {s : Settings} {d : ℕ} {told : List ReportMade} {rows : List ℕ} {due : ℕ} (c : Reached s (rowBefore s) d told rows due)
+    (t : ℕ) (to : due ≤ t + delayOf s + 1) (i p v : ℕ) (hi : i < kOf s) where
+  -- the row of position p
+  abbrev row : List ℕ
+  row = slotRow s (rowBefore s) d told t i p
 
-  known-flag : T (seen s r t i v .known p) → getD (r .after .rows) (rowAt s t i p) 0 ≡ 1
-  unfolding arrived
-  known-flag k =
-      eqb→eq (getD (r .after .rows) (rowAt s t i p) 0) 1
-      (and-right (reportedAt (t + delayOf s + 1) t i p) (eqb (getD (r .after .rows) (rowAt s t i p) 0) 1) k)
+  -- the position is known exactly if its slot was reported and its row says received
+  known-flag : T (arrived s rows due t i v .known p) ↔ ((t + p < due + i) × (getD row 0 0 ≡ 1))
+  unfolding arrived reportedAt
+  known-flag =
+      let one : Bool = eqb (getD rows (rowAt s t i p) 0) 1 in (
+        λ k.
+            let now : t + p < due + i = ltb→lt (t + p) (due + i) (and-left (ltb (t + p) (due + i)) one k) in
+            let flag : getD rows (rowAt s t i p) 0 ≡ 1
+            = eqb→eq (getD rows (rowAt s t i p) 0) 1 (and-right (ltb (t + p) (due + i)) one k) in
+            (now, sym (flag-says c t i p hi to now) ∙ flag),
+        λ (now, flag).
+            both-pass (ltb (t + p) (due + i)) one (lt→ltb (t + p) (due + i) now)
+            (rw (flag-says c t i p hi to now ∙ flag) (eqb-refl 1)),
+      )
 
-  -- a known position from slot 0 on was heard
-  known-frame : i ≤ t + p → p ≤ i + delayOf s → getD (r .after .rows) (rowAt s t i p) 0 ≡ 1
-      → (call : Report) → ReportedAs told (t + p - i) call → (f : List ℕ) × Heard told (t + p - i) f
-  unfolding rowOf rowLen
-  known-frame h hp e (heard f m) a = (f, record { message = m; by = a })
-  known-frame h hp e (missed m) a =
-      let z : _≡_ {A = ℕ} 1 0
-      = sym e ∙ flag-late c i p hi h hp (missed m) a ∙ getD-replicate (1 + bodyLen s) 0 0 0 (omega arith) in
-      absurd (omega arith)
+  -- a position whose slot was reported and not lost is known
+  pub known-if : t + p < due + i → lostPosition (lostSince d told) t i p ≡ false → T (arrived s rows due t i v .known p)
+  known-if now kept = known-flag .1 (now, kept-flag (became c t i p hi now) kept)
 
-  known-slot : T (seen s r t i v .known p) → i ≤ t + p → (f : List ℕ) × Heard told (t + p - i) f
-  known-slot k late =
-      let hp : p ≤ i + delayOf s = known-in-time k in
-      let found = slot-report c i p hi late hp in
-      known-frame late hp (known-flag k) (found .0) (found .1)
+  -- what came stands in its row
+  came-row : (b : ℕ) → Came s told t i v p b → (getD row 0 0 ≡ 1) × (getD row (1 + (p * s .lanes + v)) 0 ≡ b)
+  unfolding receivedZeros rowOf
+  came-row b (Came.early h) = rw (row-early c t i p hi h) (refl, early-byte s (p * s .lanes + v))
+  came-row b (Came.heard f late h) =
+      let a = h .by in
+      let from : d + i ≤ t + p = omega (arith, due-from (c .chain) (a .report) (a .listed), a .slot) in
+      rw (row-reported c t i p hi from (heard f (h .message)) a) (refl, heard-byte f (p * s .lanes + v))
 
-  -- ---- its bytes
-
-  -- before slot 0 they are 0
-  pub early-zero : p < nOf s → v < s .lanes → t + p < i → seen s r t i v .byte p ≡ 0
-  unfolding arrived receivedZeros
-  early-zero hp hv early =
-      let q : ℕ = p * s .lanes + v in
-      row-early c i p hi early (1 + q) (in-row s p v hp hv)
-      ∙ ap (λ (j : ℕ). getD (1 ∷ replicate (bodyLen s) 0) j 0) (one-add q) ∙ zero-at (bodyLen s) q
-
-  -- from slot 0 on they are those of the frame that was heard
-  pub byte-of : p < nOf s → v < s .lanes → i ≤ t + p → p ≤ i + delayOf s → (f : List ℕ) → Heard told (t + p - i) f
-      → seen s r t i v .byte p ≡ getD f (14 + (p * s .lanes + v)) 0
-  unfolding arrived rowOf
-  byte-of hp hv late in-time f h =
-      let q : ℕ = p * s .lanes + v in
-      row-late c i p hi late in-time (heard f (h .message)) (h .by) (1 + q) (in-row s p v hp hv)
-      ∙ ap (λ (j : ℕ). getD (1 ∷ drop 14 f) j 0) (one-add q) ∙ getD-drop 14 f q 0
-
-  -- a known position from slot 0 on was heard, and its byte is that frame's
-  pub heard-byte : p < nOf s → v < s .lanes → T (seen s r t i v .known p) → i ≤ t + p
-      → (f : List ℕ) × Heard told (t + p - i) f × (seen s r t i v .byte p ≡ getD f (14 + (p * s .lanes + v)) 0)
-  heard-byte hp hv k late =
-      let found = known-slot k late in
-      (found .0, found .1, byte-of hp hv late (known-in-time k) (found .0) (found .1))
-
-  -- ---- both
-
-  came-from : p < nOf s → v < s .lanes → (b : ℕ) → T (seen s r t i v .known p) → seen s r t i v .byte p ≡ b → Came s told t i v p b
-  came-from hp hv b k e =
-      ⊎-elim
-      (λ late.
-      let (f, h, same) = heard-byte hp hv k late in
-      subst (Came s told t i v p) (sym same ∙ e) (Came.heard f late h))
-      (λ early. subst (Came s told t i v p) (sym (early-zero hp hv early) ∙ e) (Came.early early)) (le-or-lt i (t + p))
-
-  came-known : p < nOf s → v < s .lanes → (b : ℕ) → p ≤ i + delayOf s → Came s told t i v p b
-      → T (seen s r t i v .known p) × (seen s r t i v .byte p ≡ b)
-  came-known hp hv b to (Came.early early) = (known-if to (position-early (lostAt told) t i p early), early-zero hp hv early)
-  came-known hp hv b to (Came.heard f late h) = (
-    known-if to (position-late (lostAt told) t i p late ∙ heard-kept (c .chain) (t + p - i) f h),
-    byte-of hp hv late to f h,
-  )
-
-  -- a position is known with a byte exactly if its slot is at most t + T and brought it
+  -- a position is known with a byte exactly if its slot was reported and brought it
   pub known-came : p < nOf s → v < s .lanes → (b : ℕ)
-      → (T (seen s r t i v .known p) × (seen s r t i v .byte p ≡ b)) ↔ ((p ≤ i + delayOf s) × Came s told t i v p b)
-  known-came hp hv b = (
-    λ (k, e). (known-in-time k, came-from hp hv b k e),
-    λ (to, from). came-known hp hv b to from,
-  )
+      → (T (arrived s rows due t i v .known p) × (arrived s rows due t i v .byte p ≡ b)) ↔ ((t + p < due + i) × Came s told t i v p b)
+  unfolding arrived
+  known-came hp hv b =
+      let q : ℕ = 1 + (p * s .lanes + v) in
+      let byte : t + p < due + i → getD rows (rowAt s t i p + q) 0 ≡ getD row q 0
+      = λ now. row-says c t i p hi to now q (in-row s p v hp hv) in (
+        λ (k, e).
+            let (now, flag) = known-flag .0 k in
+            (now, subst (Came s told t i v p) (sym (byte now) ∙ e) (flag-came v (became c t i p hi now) flag)),
+        λ (now, from). let (flag, e) = came-row b from in (known-flag .1 (now, flag), byte now ∙ e),
+      )

@@ -1,40 +1,45 @@
 -- Demand 3, proved of any list of sends and any list of reports: `demand3`, whose statement is `Demand3` of specs/Claim.antt.
-use mathlib.Core.Path.{_≡_, refl, ap, _∙_, subst, subst⁻¹}
+use mathlib.Core.Path.{_≡_, refl, sym, ap, _∙_, subst, subst⁻¹}
 use mathlib.Core.Bool.{Bool, true, false, not}
 use mathlib.Core.Logic.{⊎-elim}
 use mathlib.Core.List.{List, List·Memᴰ}
-use Prim.Native.Nat.{ℕ, _+_, _-_, _≤_, zero-le}
+use Prim.Native.Nat.{ℕ, _+_, _-_, _≤_, _<_, zero-le}
 use native.Mathlib.Omega.{arith}
 use lib.Dec.{T}
 use lib.ListN.{length}
 use Rattle.galois.proofs.Cases.{all-or-one}
 use Rattle.code.specs.declared.settings.Settings.{Settings}
-use Rattle.code.specs.Settings.{accepted, delayOf, kOf}
+use Rattle.code.specs.Settings.{accepted, delayOf, kOf, nOf}
+use Rattle.code.specs.Word.{symbol}
 use Rattle.code.proofs.Shape.{Shape, shape}
 use Rattle.repair.specs.Fair.{Fair, lostPosition}
 use Rattle.repair.proofs.Window.{not-all-lost}
 use Rattle.protocol.specs.declared.Reply.the-variants as reply
 use Rattle.protocol.specs.Lengths.{messageLen}
+use Rattle.protocol.specs.Codewords.{source}
+use Rattle.protocol.specs.Verdict.{arrived}
 use Rattle.protocol.specs.Calls.{openReceiverOf}
 use Rattle.protocol.specs.TwoLists.{Send, SendMade, heard, ReportMade, reports}
 use Rattle.protocol.specs.Histories.{Bytes, SentAs, messageAt, accepts, Heard, lostAt}
+use Rattle.protocol.specs.Meaning.{Came}
 use Rattle.protocol.specs.Claim.{Faithful, Holds, Demand3}
+use Rattle.protocol.proofs.TrueWords.{symbol-early, symbol-slot}
 use Rattle.protocol.proofs.SenderList.{sentOf, opened-sent, once, message-at, sent-before, message-byte, sends-taken, sent-lengths, sent-header, frame-true}
 use Rattle.protocol.proofs.ReportChain.{Chain, opened-chain}
-use Rattle.protocol.proofs.SlotReports.{reported-below}
+use Rattle.protocol.proofs.SlotReports.{lostSince, lost-from}
 use Rattle.protocol.proofs.Received.{reports-taken, own-accepted, told-at}
-use Rattle.protocol.proofs.ReceivedRows.{openedRows}
-use Rattle.protocol.proofs.SlotRows.{Telling}
-use Rattle.protocol.proofs.Arrivals.{known-if, early-zero, heard-byte}
-use Rattle.protocol.proofs.Recovery.{Truthful, recovered, recovered-message}
+use Rattle.protocol.proofs.ReceivedRows.{Holding, Reached, heard-since, left-by, rowBefore, opened-rows}
+use Rattle.protocol.proofs.Arrivals.{known-if, known-came}
+use Rattle.protocol.proofs.Recovery.{Truthful, recovered, whole-message}
 
 not-true : (b : Bool) → T (not b) → b ≡ false
 not-true true t = absurd t
 not-true false t = refl
 
--- the sends and the reports of two accepted openings, each accepted frame being the sender's own
+-- the sends of an accepted opening, and reports from any slot d on, each accepted frame being the sender's own
 module _ (s : Settings) (ok : T (accepted s)) (calls : List Send) (bytes : (c : Send) → List·Memᴰ c calls → Bytes (c .message))
-    (told : List ReportMade) (chain : Chain s 0 (openedRows s) told) (faithful : Faithful (sentOf s calls) told) where
+    (told : List ReportMade) {d : ℕ} {opening : List ℕ} (chain : Chain s d opening told) (opened : Holding s opening d (rowBefore s))
+    (faithful : Faithful (sentOf s calls) told) where
   abbrev sent : List SendMade
   sent = sentOf s calls
 
@@ -56,19 +61,42 @@ module _ (s : Settings) (ok : T (accepted s)) (calls : List Send) (bytes : (c : 
       let sizes = sent-lengths s ok calls (r .before .due) message f a in
       own-accepted chain r f m listed call (sizes .1) (sent-header s ok calls (r .before .due) message f a) (sizes .2) full
 
+  -- what came of a codeword is the true word's
+  came-true : (t i v p b : ℕ) → p < nOf s → v < s .lanes → Came s told t i v p b → b ≡ symbol s (source s messages t i v) p
+  came-true t i v p b hp hv (Came.early early) = sym (symbol-early s (shape s ok) messages (message-byte s calls bytes) t i v p early)
+  came-true t i v p b hp hv (Came.heard f late h) =
+      let (m, a) = heard-sent (t + p - i) f h in
+      frame-true s ok calls bytes (t + p - i) m f a p v hp hv
+      ∙ symbol-slot s (shape s ok) messages (message-byte s calls bytes) t i v p late
+
+  -- so the rows tell the truth about message t, from any point on at which it can be told
+  truthful : (rows : List ℕ) (due t : ℕ) → Reached s (rowBefore s) d told rows due → due ≤ t + delayOf s + 1
+      → Truthful s rows due t messages (lostSince d told)
+  truthful rows due t c to = record {
+    heard-known = λ i v p hi hv hp now kept. known-if c t to i p v hi now (not-true (lostPosition (lostSince d told) t i p) kept);
+    known-true = λ i v p hi hv hp known.
+        came-true t i v p (arrived s rows due t i v .byte p) hp hv (known-came c t to i p v hi hp hv _ .0 (known, refl) .1);
+  }
+
   module _ (t : ℕ) (r : ReportMade) (listed : List·Memᴰ r told) (slot : r .before .due ≡ t + delayOf s)
-      (passed : T (accepts (r .after .reply))) (fair : Fair s (lostAt told) (t + 1 - kOf s) (t + delayOf s)) where
+      (passed : T (accepts (r .after .reply))) (fair : Fair s (lostSince d told) (t + 1 - kOf s) (t + delayOf s)) where
+    -- the report has reached slot t + T + 1
+    reached : Reached s (rowBefore s) d told (r .after .rows) (t + delayOf s + 1)
+    reached =
+        subst (λ (due : ℕ). Reached s (rowBefore s) d told (r .after .rows) (due + 1)) slot
+        (left-by (shape s ok) (rowBefore s) chain opened r listed passed)
+
     -- one of the slots t to t + T was heard
     one-heard : (τ : ℕ) × (f : List ℕ) × (t ≤ τ) × Heard told τ f
     one-heard =
         let h : Shape s = shape s ok in
         let stretch = fair t (delayOf s + 1) (omega arith) (omega arith) (omega arith) in
         ⊎-elim
-        (λ all. absurd (not-all-lost s h (lostAt told) t stretch all))
+        (λ all. absurd (not-all-lost s h (lostSince d told) t stretch all))
         (λ found.
-        ⊎-elim (λ lost. absurd (subst T (found .2) lost)) (λ h. (t + found .0, h .0, omega arith, h .1))
-        (reported-below chain r listed passed (t + found .0) zero-le (omega (arith, slot, found .1))))
-        (all-or-one (delayOf s + 1) (λ x. lostAt told (t + x)))
+        let heard = heard-since reached (t + found .0) (omega (arith, found .1)) (found .2) in
+        (t + found .0, heard .0, omega arith, heard .1))
+        (all-or-one (delayOf s + 1) (λ x. lostSince d told (t + x)))
 
     -- so message t was sent
     was-sent : (message : List ℕ) × (frame : List ℕ) × SentAs sent t message frame
@@ -76,20 +104,6 @@ module _ (s : Settings) (ok : T (accepted s)) (calls : List Send) (bytes : (c : 
         let (τ, f, from, h) = one-heard in
         let (m, a) = heard-sent τ f h in
         sent-before s calls t τ m f a from
-
-    telling : Telling s told r t
-    telling = record { shape = shape s ok; chain = chain; listed = listed; passed = passed; slot = slot }
-
-    -- and the rows tell the truth about it
-    truthful : Truthful s (r .after .rows) (t + delayOf s + 1) t messages (lostAt told)
-    truthful = record {
-      heard-known = λ i v p hi hv hp to kept. known-if telling i p v hi to (not-true (lostPosition (lostAt told) t i p) kept);
-      early-zero = λ i v p hi hv hp early known. early-zero telling i p v hi hp hv early;
-      known-true = λ i v p hi hv hp from known.
-          let (f, h, same) = heard-byte telling i p v hi hp hv known from in
-          let (m, a) = heard-sent (t + p - i) f h in
-          same ∙ frame-true s ok calls bytes (t + p - i) m f a p v hp hv;
-    }
 
     -- whole, as sent
     on-time : (message : List ℕ) × (frame : List ℕ) × SentAs sent t message frame × (r .after .reply ≡ reply.Whole)
@@ -101,21 +115,25 @@ module _ (s : Settings) (ok : T (accepted s)) (calls : List Send) (bytes : (c : 
         let full : length (messages t) ≡ messageLen s = ap length same ∙ sent-lengths s ok calls t message frame a .0 in
         let rows = r .after .rows in
         let due : ℕ = t + delayOf s + 1 in
-        let b = message-byte s calls bytes in (
+        let b = message-byte s calls bytes in
+        let true-rows : Truthful s rows due t messages (lostSince d told) = truthful rows due t reached (omega arith) in
+        let whole = recovered s (shape s ok) rows due t messages (lostSince d told) b true-rows fair (omega arith) in (
           message,
           frame,
           a,
-          tells .0 ∙ recovered s (shape s ok) rows due t messages (lostAt told) b truthful fair,
-          tells .1 ∙ recovered-message s (shape s ok) rows due t messages (lostAt told) b truthful fair full ∙ same,
+          tells .0 ∙ whole,
+          tells .1 ∙ whole-message s (shape s ok) rows due t messages (lostSince d told) b true-rows whole full ∙ same,
         )
 
-  holds : Holds s sent told
-  holds = record {
+  -- all of it, where no slot is before the first one
+  holds : lostSince d told ≡ lostAt told → Holds s sent told
+  holds all = record {
     sends-taken = sends-taken s ok calls;
     reports-taken = reports-taken chain;
     own-frame = own-frame;
     once = once s calls;
-    on-time = on-time;
+    on-time = λ t r listed slot passed fair.
+        on-time t r listed slot passed (subst⁻¹ (λ (lost : ℕ → Bool). Fair s lost (t + 1 - kOf s) (t + delayOf s)) all fair);
   }
 
 -- demand 3. Wrong definitions that agree with themselves, and what in the statement rules each out:
@@ -131,5 +149,5 @@ demand3 s ok senderRows receiverRows sends-exact reports-exact sendCalls bytes r
     let same = opened-sent s senderRows sendCalls ok sends-exact in
     let told = reports (openReceiverOf s receiverRows .receiver) (openReceiverOf s receiverRows .rows) reportCalls in
     subst⁻¹ (λ (sent : List SendMade). Holds s sent told) same
-    (holds s ok sendCalls bytes told (opened-chain s ok receiverRows reports-exact reportCalls)
-    (subst (λ (sent : List SendMade). Faithful sent told) same faithful))
+    (holds s ok sendCalls bytes told (opened-chain s ok receiverRows reports-exact reportCalls) (opened-rows s)
+    (subst (λ (sent : List SendMade). Faithful sent told) same faithful) (λ i τ. lost-from 0 told τ zero-le i))

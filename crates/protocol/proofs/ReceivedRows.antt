@@ -1,69 +1,78 @@
--- The receiver's rows hold the last k + T slots: received zeros before slot 0, then the row of each slot's accepted report.
-use mathlib.Core.Path.{_≡_, refl, sym, ap, _∙_, subst⁻¹}
-use mathlib.Core.Bool.{cond}
+-- The receiver's rows hold the last k + T slots: what they held before the first slot, then the row of each slot's accepted report.
+use mathlib.Core.Path.{_≡_, refl, sym, ap, _∙_, subst, subst⁻¹}
+use mathlib.Core.Bool.{Bool, true, false, cond, true≢false}
 use mathlib.Core.List.{List, [], List·Memᴰ, List·Memᴰ·head, List·Memᴰ·tail, List·Memᴰ·not-nil, List·Memᴰ·cases-cons}
 use mathlib.Core.Logic.{⊎-elim}
 use mathlib.Core.Option.{Option, none, some}
-use Prim.Native.Nat.{ℕ, _+_, _-_, _<_}
-use native.Mathlib.Nat.{add-sub-cancel}
+use Prim.Native.Nat.{ℕ, _+_, _-_, _%_, _≤_, _<_, zero-le}
+use native.Mathlib.Nat.{mod-eq-of-lt, mod-eq-sub-mod, mod-le}
 use native.Mathlib.Omega.{arith}
 use lib.Dec.{T, ltb}
-use lib.ListN.{getD}
+use lib.ListN.{length, getD, replicate, length-replicate}
 use borrow.Author.Tests.{lt-ltb, le-ltb}
+use Rattle.galois.proofs.Cases.{le-or-lt}
 use Rattle.code.specs.declared.settings.Settings.{Settings}
 use Rattle.code.proofs.Shape.{Shape}
 use Rattle.protocol.specs.Lengths.{rowLen, rowCount, receiverLen}
 use Rattle.protocol.specs.Rows.{joined}
 use Rattle.protocol.specs.Calls.{Reported, movedOn, receivedZeros}
 use Rattle.protocol.specs.TwoLists.{Report, ReportMade, rowOf}
-use Rattle.protocol.specs.Histories.{accepts}
+use Rattle.protocol.specs.Histories.{accepts, ReportedAs, Heard}
 use Rattle.protocol.specs.Claim.{NoCause}
-use Rattle.protocol.proofs.Rings.{Ring, ring-start, ring-step, getD-joined}
+use Rattle.protocol.proofs.Rings.{since, since-first, since-slot, Ring, ring-start, ring-step}
 use Rattle.protocol.proofs.ReportRows.{length-rowOf}
 use Rattle.protocol.proofs.ReportSteps.{Taken}
 use Rattle.protocol.proofs.ReportChain.{written, Finds, Chain, done, onward, again, some-rows, length-receivedZeros}
-use Rattle.protocol.proofs.Receipts.{callAt, call-of}
+use Rattle.protocol.proofs.Received.{along, taken-of}
+use Rattle.protocol.proofs.Receipts.{callAt, call-of, due-from}
+use Rattle.protocol.proofs.SlotReports.{reported, reported-to, lostSince, lost-before, lost-from, either-way}
+
+-- the rows hold what f says of the last k + T slots before due; f counts from k + T slots before slot 0
+abbrev pub Holding : Settings → List ℕ → ℕ → (ℕ → List ℕ) → Type 0
+Holding s = Ring (rowCount s) (rowLen s)
+
+-- ---- along a chain
 
 -- an accepted report leaves the rows with its own row written
-pub rows-after : (s : Settings) (d : ℕ) (rows : List ℕ) (m : ReportMade) → Finds s d rows m → Taken m
+rows-after : (s : Settings) (d : ℕ) (rows : List ℕ) (m : ReportMade) → Finds s d rows m → Taken m
     → m .after .rows ≡ written s d (m .call) rows
 unfolding movedOn written
 rows-after s d rows m h t = ap (λ (q : Reported). q .rows) (t .moved) ∙ rw (h .settings, h .slot, h .got)
 
 -- a history f agrees with the rows of the accepted reports
-abbrev pub Agrees : Settings → List ReportMade → (ℕ → ℕ → ℕ) → Type 0
+abbrev Agrees : Settings → List ReportMade → (ℕ → List ℕ) → Type 0
 Agrees s told f =
-    (r : ReportMade) → List·Memᴰ r told → T (accepts (r .after .reply)) → (j : ℕ) → j < rowLen s
-    → getD (rowOf s (r .call)) j 0 ≡ f (r .before .due + rowCount s) j
+    (r : ReportMade) → List·Memᴰ r told → T (accepts (r .after .reply)) → rowOf s (r .call) ≡ f (r .before .due + rowCount s)
 
 -- the ring one slot later
-ring-next : (s : Settings) (d : ℕ) (rows : List ℕ) (m : ReportMade) (f : ℕ → ℕ → ℕ) → Shape s → Finds s d rows m → Taken m
-    → ((j : ℕ) → j < rowLen s → getD (rowOf s (m .call)) j 0 ≡ f (m .before .due + rowCount s) j)
-    → Ring (rowCount s) (rowLen s) rows d f → Ring (rowCount s) (rowLen s) (written s d (m .call) rows) (d + 1) f
+ring-next : (s : Settings) (d : ℕ) (rows : List ℕ) (m : ReportMade) (f : ℕ → List ℕ) → Shape s → Finds s d rows m → Taken m
+    → rowOf s (m .call) ≡ f (m .before .due + rowCount s) → Holding s rows d f → Holding s (written s d (m .call) rows) (d + 1) f
 unfolding written receiverLen
 ring-next s d rows m f shape h t new ring =
     let free : NoCause s (m .before .due) (m .call) = rw (h .settings) at (t .uncaused) in
-    let here : (j : ℕ) → j < rowLen s → getD (rowOf s (m .call)) j 0 ≡ f (d + rowCount s) j = rw (h .slot) at new in
+    let here : rowOf s (m .call) ≡ f (d + rowCount s) = rw (h .slot) at new in
     ring-step (rowCount s) (rowLen s) rows (rowOf s (m .call)) d f (some-rows s shape) (h .exact)
     (length-rowOf s (m .before .due) (m .call) free) here ring
 
--- after each accepted report the rows are the ring of any history that agrees
-pub rings : {s : Settings} {d : ℕ} {rows : List ℕ} {told : List ReportMade} → Chain s d rows told → Shape s → (f : ℕ → ℕ → ℕ)
-    → Agrees s told f → Ring (rowCount s) (rowLen s) rows d f → (r : ReportMade) → List·Memᴰ r told → T (accepts (r .after .reply))
-    → Ring (rowCount s) (rowLen s) (r .after .rows) (r .before .due + 1) f
-rings done shape f agrees ring r m ok = absurd (List·Memᴰ·not-nil m)
-rings {s} {d} {rows} (onward {m = x} h t rest) shape f agrees ring r m ok =
-    let next : Ring (rowCount s) (rowLen s) (written s d (x .call) rows) (d + 1) f
-    = ring-next s d rows x f shape h t (agrees x (List·Memᴰ·head refl) (t .passed)) ring in
-    ⊎-elim
-    (λ same.
-    subst⁻¹ (λ (q : ReportMade). Ring (rowCount s) (rowLen s) (q .after .rows) (q .before .due + 1) f) same
-    (subst⁻¹ (λ (now : List ℕ). Ring (rowCount s) (rowLen s) now (x .before .due + 1) f) (rows-after s d rows x h t)
-    (subst⁻¹ (λ (e : ℕ). Ring (rowCount s) (rowLen s) (written s d (x .call) rows) (e + 1) f) (h .slot) next)))
-    (λ later. rings rest shape f (λ r l. agrees r (List·Memᴰ·tail l)) next r later ok) (List·Memᴰ·cases-cons m)
-rings (again {m = x} h t rest) shape f agrees ring r m ok =
-    ⊎-elim (λ same. absurd (t .failed (rw same at ok)))
-    (λ later. rings rest shape f (λ r l. agrees r (List·Memᴰ·tail l)) ring r later ok) (List·Memᴰ·cases-cons m)
+-- a report found the ring, if it is of these rows
+ring-found : (s : Settings) (d : ℕ) (rows : List ℕ) (x r : ReportMade) (f : ℕ → List ℕ) → Finds s d rows x → Holding s rows d f → r ≡ x
+    → Holding s (r .rows) (r .before .due) f
+ring-found s d rows x r f h ring same =
+    subst⁻¹ (λ (q : ReportMade). Holding s (q .rows) (q .before .due) f) same (rw (h .got, h .slot) ring)
+
+-- each report finds the ring of any history that agrees
+rings : {s : Settings} {d : ℕ} {rows : List ℕ} {told : List ReportMade} → Chain s d rows told → Shape s → (f : ℕ → List ℕ)
+    → Agrees s told f → Holding s rows d f → (r : ReportMade) → List·Memᴰ r told → Holding s (r .rows) (r .before .due) f
+rings done shape f agrees ring r m = absurd (List·Memᴰ·not-nil m)
+rings {s} {d} {rows} (onward {m = x} h t rest) shape f agrees ring r m =
+    ⊎-elim (ring-found s d rows x r f h ring)
+    (λ later.
+    rings rest shape f (λ r l. agrees r (List·Memᴰ·tail l))
+    (ring-next s d rows x f shape h t (agrees x (List·Memᴰ·head refl) (t .passed)) ring) r later)
+    (List·Memᴰ·cases-cons m)
+rings {s} {d} {rows} (again {m = x} h t rest) shape f agrees ring r m =
+    ⊎-elim (ring-found s d rows x r f h ring) (λ later. rings rest shape f (λ r l. agrees r (List·Memᴰ·tail l)) ring r later)
+    (List·Memᴰ·cases-cons m)
 
 -- ---- the history of a list of reports
 
@@ -76,38 +85,103 @@ rowIn s (some call) = rowOf s call
 unfoldable pub rowOfSlot : Settings → List ReportMade → ℕ → List ℕ
 rowOfSlot s told τ = rowIn s (callAt told τ)
 
--- the rows from k + T slots before slot 0 on
-unfoldable pub history : Settings → List ReportMade → ℕ → ℕ → ℕ
-history s told σ j = cond (ltb σ (rowCount s)) (getD (receivedZeros s) j 0) (getD (rowOfSlot s told (σ - rowCount s)) j 0)
+-- the rows from k + T slots before slot 0 on: those that `first` says before slot d, and then those of the reports
+abbrev pub history : Settings → (ℕ → List ℕ) → ℕ → List ReportMade → ℕ → List ℕ
+history s first d told = since (rowCount s) d first (rowOfSlot s told)
 
--- before slot 0 it is received zeros, and from slot 0 on the slot's row
-pub history-early : (s : Settings) (told : List ReportMade) (σ j : ℕ) → σ < rowCount s → history s told σ j ≡ getD (receivedZeros s) j 0
-unfolding history
-history-early s told σ j h = rw (lt-ltb σ (rowCount s) h)
+-- at some point of these reports, made from slot d on, slot due was due and the rows were these; they had begun as `first` says
+pub record Reached (s : Settings) (first : ℕ → List ℕ) (d : ℕ) (told : List ReportMade) (rows : List ℕ) (due : ℕ) : Type 0 where
+  pub opening : List ℕ
+  pub chain : Chain s d opening told
+  pub ring : Holding s rows due (history s first d told)
+  pub reported : (τ : ℕ) → d ≤ τ → τ < due → (call : Report) × ReportedAs told τ call
 
-pub history-slot : (s : Settings) (told : List ReportMade) (τ j : ℕ)
-    → history s told (τ + rowCount s) j ≡ getD (rowOfSlot s told τ) j 0
-unfolding history
-history-slot s told τ j = rw (le-ltb (τ + rowCount s) (rowCount s) (omega arith), add-sub-cancel τ (rowCount s))
+-- then a slot that was reported, and does not count as a loss, was heard
+pub heard-since : {s : Settings} {first : ℕ → List ℕ} {d : ℕ} {told : List ReportMade} {rows : List ℕ} {due : ℕ}
+    → Reached s first d told rows due → (τ : ℕ) → τ < due → lostSince d told τ ≡ false → (f : List ℕ) × Heard told τ f
+heard-since {d = d} {told} c τ now kept =
+    ⊎-elim
+    (λ from.
+    let (call, a) = c .reported τ from now in
+    ⊎-elim (λ lost. absurd (subst T (sym (lost-from d told τ from) ∙ kept) lost)) (λ h. h) (either-way (c .chain) τ call a))
+    (λ before. absurd (true≢false (sym (lost-before d told τ before) ∙ kept))) (le-or-lt d τ)
+
+module _ {s : Settings} {d : ℕ} {rows : List ℕ} {told : List ReportMade} (shape : Shape s) (first : ℕ → List ℕ)
+    (chain : Chain s d rows told) (opened : Holding s rows d first) where
+  history-agrees : Agrees s told (history s first d told)
+  unfolding rowOfSlot
+  history-agrees r listed passed =
+      sym
+      (since-slot (rowCount s) d first (rowOfSlot s told) (r .before .due) (due-from chain r listed)
+      ∙ ap (rowIn s) (call-of chain r listed passed))
+
+  -- what a report found
+  pub found-by : (r : ReportMade) → List·Memᴰ r told → Reached s first d told (r .rows) (r .before .due)
+  found-by r listed = record {
+    opening = rows;
+    chain = chain;
+    ring = rings chain shape (history s first d told) history-agrees
+        (λ σ j low high hj.
+        opened σ j low high hj
+        ∙ sym (ap (λ (l : List ℕ). getD l j 0) (since-first (rowCount s) d first (rowOfSlot s told) σ high))) r listed;
+    reported = reported chain r listed;
+  }
+
+  -- and what an accepted one left
+  pub left-by : (r : ReportMade) → List·Memᴰ r told → T (accepts (r .after .reply))
+      → Reached s first d told (r .after .rows) (r .before .due + 1)
+  left-by r listed passed =
+      let due : ℕ = r .before .due in
+      let a = along chain r listed in
+      let t = taken-of chain r listed passed in
+      let h : Finds s due (r .rows) r = record { settings = a .settings; slot = refl; got = refl; exact = a .exact } in
+      record {
+        opening = rows;
+        chain = chain;
+        ring = rw (rows-after s due (r .rows) r h t)
+            (ring-next s due (r .rows) r (history s first d told) shape h t (history-agrees r listed passed) (found-by r listed .ring));
+        reported = reported-to chain r listed passed;
+      }
+
+-- ---- the opening
+
+-- the row of a slot before the first one: received zeros before slot 0, and lost from slot 0 on
+unfoldable pub rowBefore : Settings → ℕ → List ℕ
+rowBefore s σ = cond (ltb σ (rowCount s)) (receivedZeros s) (replicate (rowLen s) 0)
+
+-- row r of a receiver that begins at slot d, which is lost exactly if r is below d
+unfoldable pub firstRow : Settings → ℕ → ℕ → List ℕ
+firstRow s d r = cond (ltb r d) (replicate (rowLen s) 0) (receivedZeros s)
+
+length-firstRow : (s : Settings) (d r : ℕ) → length (firstRow s d r) ≡ rowLen s
+unfolding firstRow
+length-firstRow s d r = go (ltb r d)
+  where
+    go : (b : Bool) → length (cond b (replicate (rowLen s) 0) (receivedZeros s)) ≡ rowLen s
+    go true = length-replicate (rowLen s) 0
+    go false = length-receivedZeros s
+
+first-before : (s : Settings) (d σ : ℕ) → d ≤ σ → σ < d + rowCount s → firstRow s d (σ % rowCount s) ≡ rowBefore s σ
+unfolding firstRow rowBefore
+first-before s d σ low high =
+    let R : ℕ = rowCount s in
+    ⊎-elim
+    (λ from.
+    let below : σ % R < d = rw (mod-eq-sub-mod from) (omega (arith, mod-le (σ - R) R)) in
+    rw (lt-ltb (σ % R) d below, le-ltb σ R from))
+    (λ early. rw (mod-eq-of-lt early, le-ltb σ d low, lt-ltb σ R early)) (le-or-lt R σ)
+
+-- so its rows begin as the slots before it were
+pub begins : (s : Settings) (d : ℕ) → Holding s (joined (rowCount s) (firstRow s d)) d (rowBefore s)
+begins s d = ring-start (rowCount s) (rowLen s) (firstRow s d) d (rowBefore s) (length-firstRow s d) (first-before s d)
 
 -- the rows that an opening makes
 abbrev pub openedRows : Settings → List ℕ
 openedRows s = joined (rowCount s) (λ r. receivedZeros s)
 
-module _ {s : Settings} {told : List ReportMade} (shape : Shape s) (chain : Chain s 0 (openedRows s) told) where
-  history-agrees : Agrees s told (history s told)
-  unfolding rowOfSlot
-  history-agrees r listed passed j hj =
-      sym (history-slot s told (r .before .due) j ∙ ap (λ (c : Option Report). getD (rowIn s c) j 0) (call-of chain r listed passed))
-
-  opened-ring : Ring (rowCount s) (rowLen s) (openedRows s) 0 (history s told)
-  opened-ring =
-      ring-start (rowCount s) (rowLen s) (openedRows s) (history s told)
-      (λ r j hr hj.
-      getD-joined (rowLen s) (rowCount s) (λ r. receivedZeros s) (λ r. length-receivedZeros s) r j hr hj
-      ∙ sym (history-early s told r j hr))
-
-  -- after an accepted report the rows are the ring of the history
-  pub rows-say : (r : ReportMade) → List·Memᴰ r told → T (accepts (r .after .reply))
-      → Ring (rowCount s) (rowLen s) (r .after .rows) (r .before .due + 1) (history s told)
-  rows-say = rings chain shape (history s told) history-agrees opened-ring
+-- are those of a receiver that begins at slot 0
+pub opened-rows : (s : Settings) → Holding s (openedRows s) 0 (rowBefore s)
+unfolding firstRow
+opened-rows s =
+    let all : firstRow s 0 ≡ (λ r. receivedZeros s) = λ i r. cond (le-ltb r 0 zero-le i) (replicate (rowLen s) 0) (receivedZeros s) in
+    subst (λ (row : ℕ → List ℕ). Holding s (joined (rowCount s) row) 0 (rowBefore s)) all (begins s 0)

@@ -27,7 +27,7 @@ use Rattle.protocol.proofs.VerdictMeaning.{verdict-clash, verdict-lost,
 use Rattle.protocol.proofs.ReportSteps.{heard-moves, heard-stays, loss-moves, loss-stays}
 use Rattle.protocol.proofs.ReportChain.{waiting, opened-chain}
 use Rattle.protocol.proofs.Received.{ByVerdict, by-verdict}
-use Rattle.protocol.proofs.SlotRows.{Telling}
+use Rattle.protocol.proofs.ReceivedRows.{Reached, left-by, rowBefore, opened-rows}
 use Rattle.protocol.proofs.Arrivals.{known-came}
 
 -- ---- none yet
@@ -119,12 +119,9 @@ demand2-verdict = record {
       subst⁻¹ (AcceptedReport (x .settings) (x .due) rows call) (accepted-moves x rows call ok) (moved-report x call rows);
   by-history = λ s ok rows exact calls r listed passed t slot i v p byte hi hv hp.
       let told = reports (openReceiverOf s rows .receiver) (openReceiverOf s rows .rows) calls in
-      let telling : Telling s told r t = record {
-        shape = shape s ok;
-        chain = opened-chain s ok rows exact calls;
-        listed = listed;
-        passed = passed;
-        slot = slot;
-      } in
-      known-came telling i p v hi hp hv byte;
+      let reached : Reached s (rowBefore s) 0 told (r .after .rows) (t + delayOf s + 1)
+      = subst (λ (due : ℕ). Reached s (rowBefore s) 0 told (r .after .rows) (due + 1)) slot
+      (left-by (shape s ok) (rowBefore s) (opened-chain s ok rows exact calls) (opened-rows s) r listed passed) in
+      let (says, came) = known-came reached t (omega arith) i p v hi hp hv byte in
+      ((λ k. let (now, from) = says k in (omega arith, from)), λ (to, from). came (omega arith, from));
 }

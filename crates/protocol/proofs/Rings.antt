@@ -1,12 +1,15 @@
 -- A ring of R rows of one size: slot t sits in row t mod R. One lemma serves both ends, for any first contents.
 use mathlib.Core.Path.{_≡_, sym, ap, ap₂, _∙_, subst⁻¹}
+use mathlib.Core.Bool.{cond}
 use mathlib.Core.Logic.{_≢_, ⊎-elim}
 use mathlib.Core.List.{List, _++_}
 use Prim.Native.Nat.{ℕ, zero, suc, _+_, _-_, _*_, _/_, _%_, _≤_, _<_}
-use native.Mathlib.Nat.{zero-mul, suc-mul, add-mod-right, mod-lt, mod-eq-of-lt, div-add-mod', mul-le-mul-right, not-suc-le-zero, le-of-suc-le-suc, eq-or-lt-of-le}
+use native.Mathlib.Nat.{zero-mul, suc-mul, add-mod-right, add-sub-cancel, mod-lt, div-add-mod', mul-le-mul-right, not-suc-le-zero, le-of-suc-le-suc, eq-or-lt-of-le}
 use native.Mathlib.Omega.{arith}
+use lib.Dec.{ltb}
 use lib.ListN.{length, getD, take, drop, length-append, length-drop, List·getD-append}
 use lib.Seq.{length-take-le, getD-take, getD-drop, getD-append-add}
+use borrow.Author.Tests.{lt-ltb, le-ltb}
 use Rattle.galois.proofs.Cases.{le-or-lt}
 use Rattle.protocol.specs.Rows.{putRow, joined}
 
@@ -96,33 +99,39 @@ apart R x y h near same =
     ⊎-elim (λ le. omega (arith, mul-le-mul-right R le)) (λ more. omega (arith, mul-le-mul-right R more, suc-mul (x / R) R))
     (le-or-lt (y / R) (x / R))
 
--- row (due - a) mod R holds what f says of slot due - a, for the R slots before due; f counts from R slots before slot 0
-abbrev pub Ring : ℕ → ℕ → List ℕ → ℕ → (ℕ → ℕ → ℕ) → Type 0
-Ring R size rows due f =
-    (a j : ℕ) → 1 ≤ a → a ≤ R → j < size → getD rows ((due + R - a) % R * size + j) 0 ≡ f (due + R - a) j
+-- the rows of the slots, counted from R slots before slot 0: those that `first` says before slot d, and then each slot's own
+unfoldable pub since : ℕ → ℕ → (ℕ → List ℕ) → (ℕ → List ℕ) → ℕ → List ℕ
+since R d first own σ = cond (ltb σ (d + R)) (first σ) (own (σ - R))
 
--- at slot 0 the rows hold the slots before it
-pub ring-start : (R size : ℕ) (rows : List ℕ) (f : ℕ → ℕ → ℕ)
-    → ((r j : ℕ) → r < R → j < size → getD rows (r * size + j) 0 ≡ f r j) → Ring R size rows 0 f
-ring-start R size rows f first a j ha hR hj =
-    let below : 0 + R - a < R = omega arith in
-    ap (λ (r : ℕ). getD rows (r * size + j) 0) (mod-eq-of-lt below) ∙ first (0 + R - a) j below hj
+pub since-first : (R d : ℕ) (first own : ℕ → List ℕ) (σ : ℕ) → σ < d + R → since R d first own σ ≡ first σ
+unfolding since
+since-first R d first own σ h = rw (lt-ltb σ (d + R) h)
+
+pub since-slot : (R d : ℕ) (first own : ℕ → List ℕ) (t : ℕ) → d ≤ t → since R d first own (t + R) ≡ own t
+unfolding since
+since-slot R d first own t h = rw (le-ltb (t + R) (d + R) (omega arith), add-sub-cancel t R)
+
+-- row σ mod R holds the row that f says, for the R slots before due; f counts from R slots before slot 0
+abbrev pub Ring : ℕ → ℕ → List ℕ → ℕ → (ℕ → List ℕ) → Type 0
+Ring R size rows due f = (σ j : ℕ) → due ≤ σ → σ < due + R → j < size → getD rows (σ % R * size + j) 0 ≡ getD (f σ) j 0
+
+-- rows given one by one, at any first slot
+pub ring-start : (R size : ℕ) (row : ℕ → List ℕ) (due : ℕ) (f : ℕ → List ℕ) → ((r : ℕ) → length (row r) ≡ size)
+    → ((σ : ℕ) → due ≤ σ → σ < due + R → row (σ % R) ≡ f σ) → Ring R size (joined R row) due f
+ring-start R size row due f sized same σ j low high hj =
+    getD-joined size R row sized (σ % R) j (mod-lt σ (omega arith)) hj ∙ ap (λ (l : List ℕ). getD l j 0) (same σ low high)
 
 -- and one slot later, once row due mod R is written over
-pub ring-step : (R size : ℕ) (rows row : List ℕ) (due : ℕ) (f : ℕ → ℕ → ℕ) → 0 < R → length rows ≡ R * size → length row ≡ size
-    → ((j : ℕ) → j < size → getD row j 0 ≡ f (due + R) j) → Ring R size rows due f
-    → Ring R size (putRow size (due % R) row rows) (due + 1) f
-ring-step R size rows row due f pos full fits new ring a j ha hR hj =
+pub ring-step : (R size : ℕ) (rows row : List ℕ) (due : ℕ) (f : ℕ → List ℕ) → 0 < R → length rows ≡ R * size → length row ≡ size
+    → row ≡ f (due + R) → Ring R size rows due f → Ring R size (putRow size (due % R) row rows) (due + 1) f
+ring-step R size rows row due f pos full fits new ring σ j low high hj =
     ⊎-elim
-    (λ le.
-    let newest : due + 1 + R - a ≡ due + R = omega arith in
+    (λ more.
+    let newest : σ ≡ due + R = omega arith in
     rw newest
     (ap (λ (r : ℕ). getD (putRow size (due % R) row rows) (r * size + j) 0) (add-mod-right due R)
-    ∙ putRow-same R size rows row full fits (due % R) (mod-lt due pos) j hj ∙ new j hj))
-    (λ more.
-    let older : due + 1 + R - a ≡ due + R - (a - 1) = omega arith in
-    rw older
-    (putRow-other R size rows row full fits (due % R) (mod-lt due pos) ((due + R - (a - 1)) % R) j
-    (apart R due (due + R - (a - 1)) (omega arith) (omega arith)) hj
-    ∙ ring (a - 1) j (omega arith) (omega arith) hj))
-    (le-or-lt a 1)
+    ∙ putRow-same R size rows row full fits (due % R) (mod-lt due pos) j hj ∙ ap (λ (l : List ℕ). getD l j 0) new))
+    (λ older.
+    putRow-other R size rows row full fits (due % R) (mod-lt due pos) (σ % R) j (apart R due σ (omega arith) older) hj
+    ∙ ring σ j (omega arith) older hj)
+    (le-or-lt (due + R) σ)

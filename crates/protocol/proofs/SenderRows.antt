@@ -1,11 +1,10 @@
 -- The sender's rows hold the last n - 1 messages of the history, and zeros for the slots before slot 0.
 use mathlib.Core.Path.{_≡_, refl, sym, ap, _∙_}
-use mathlib.Core.Bool.{true, false}
 use mathlib.Core.Logic.{⊎-elim}
-use mathlib.Core.List.{List, List·Memᴰ}
-use Prim.Native.Nat.{ℕ, _+_, _-_, _*_, _≤_, _<_}
+use mathlib.Core.List.{List, [], List·Memᴰ}
+use Prim.Native.Nat.{ℕ, _+_, _-_, _*_, _%_, _≤_, _<_, zero-le}
+use native.Mathlib.Nat.{mod-lt}
 use native.Mathlib.Omega.{arith}
-use lib.Dec.{leb}
 use lib.Arith.{digits-lt}
 use lib.ListN.{length, getD, replicate, length-replicate, getD-replicate}
 use borrow.Author.Tests.{le-leb, lt-leb}
@@ -20,28 +19,18 @@ use Rattle.protocol.specs.Frame.{remembered}
 use Rattle.protocol.specs.Codewords.{source}
 use Rattle.protocol.specs.Calls.{Sent, sendOf}
 use Rattle.protocol.specs.TwoLists.{Send, SendMade, sends}
-use Rattle.protocol.proofs.Rings.{Ring, ring-start, ring-step}
+use Rattle.protocol.proofs.Rings.{since, since-first, since-slot, Ring, ring-step}
 use Rattle.protocol.proofs.Sending.{SendCase, taken, refused, send-case}
 use Rattle.protocol.proofs.Along.{madeOf, at-members}
 use Rattle.protocol.proofs.SentLengths.{Kept, kept-step, some-row}
 
--- byte j of the message of slot σ - R, and 0 before slot 0
-unfoldable pub shifted : ℕ → (ℕ → List ℕ) → ℕ → ℕ → ℕ
-shifted R H σ j = elim (leb R σ) [ true ↦ getD (H (σ - R)) j 0 | false ↦ 0 ]
-
--- from slot 0 on
-shifted-from : (R : ℕ) (H : ℕ → List ℕ) (σ j : ℕ) → R ≤ σ → shifted R H σ j ≡ getD (H (σ - R)) j 0
-unfolding shifted
-shifted-from R H σ j h = rw (le-leb R σ h, shifted)
-
--- before slot 0
-shifted-before : (R : ℕ) (H : ℕ → List ℕ) (σ j : ℕ) → σ < R → shifted R H σ j ≡ 0
-unfolding shifted
-shifted-before R H σ j h = rw (lt-leb R σ h, shifted)
+-- the messages of H, counted from n - 1 slots before slot 0, and nothing before slot 0
+abbrev messagesOf : Settings → (ℕ → List ℕ) → ℕ → List ℕ
+messagesOf s = since (nOf s - 1) 0 (λ _. [])
 
 -- the settings are s, and the rows hold the messages of H before the slot due
 abbrev pub Remembers : Settings → (ℕ → List ℕ) → Sender → List ℕ → Type 0
-Remembers s H x rows = Kept s x rows × Ring (nOf s - 1) (messageLen s) rows (x .due) (shifted (nOf s - 1) H)
+Remembers s H x rows = Kept s x rows × Ring (nOf s - 1) (messageLen s) rows (x .due) (messagesOf s H)
 
 -- an accepted send's message is that of H
 abbrev pub Follows : (ℕ → List ℕ) → SendMade → Type 0
@@ -53,9 +42,9 @@ pub remembers-start : (s : Settings) (H : ℕ → List ℕ)
 unfolding senderLen
 remembers-start s H = (
   (refl, length-replicate (senderLen s) 0),
-  ring-start (nOf s - 1) (messageLen s) (replicate (senderLen s) 0) (shifted (nOf s - 1) H)
-      (λ r j hr hj.
-      getD-replicate (senderLen s) (r * messageLen s + j) 0 0 (digits-lt hr hj) ∙ sym (shifted-before (nOf s - 1) H r j hr)),
+  λ σ j low high hj.
+      getD-replicate (senderLen s) (σ % (nOf s - 1) * messageLen s + j) 0 0 (digits-lt (mod-lt σ (omega arith)) hj)
+      ∙ sym (ap (λ (l : List ℕ). getD l j 0) (since-first (nOf s - 1) 0 (λ _. []) H σ high)),
 )
 
 -- a send whose message is that of H keeps it so
@@ -68,17 +57,13 @@ remembers-step s h H x rows c follows k =
   where
     go : SendCase x rows (c .message) (c .frame)
         → Ring (nOf s - 1) (messageLen s) (sendOf x rows (c .message) (c .frame) .rows)
-        (sendOf x rows (c .message) (c .frame) .sender .due) (shifted (nOf s - 1) H)
+        (sendOf x rows (c .message) (c .frame) .sender .due) (messagesOf s H)
     go (taken can e) =
         let exact : length (c .message) ≡ messageLen s = rw (k .0 .0) at (can .message-exact) in
         let given : c .message ≡ H (x .due) = follows (ap (λ (r : Sent). r .answer) e) in
-        let back : x .due + (nOf s - 1) - (nOf s - 1) ≡ x .due = omega arith in
         rw (e, k .0 .0)
-        (ring-step (nOf s - 1) (messageLen s) rows (c .message) (x .due) (shifted (nOf s - 1) H) (some-row s h) (k .0 .1) exact
-        (λ j hj.
-        ap (λ (l : List ℕ). getD l j 0) (given ∙ ap H (sym back))
-        ∙ sym (shifted-from (nOf s - 1) H (x .due + (nOf s - 1)) j (omega arith)))
-        (k .1))
+        (ring-step (nOf s - 1) (messageLen s) rows (c .message) (x .due) (messagesOf s H) (some-row s h) (k .0 .1) exact
+        (given ∙ sym (since-slot (nOf s - 1) 0 (λ _. []) H (x .due) zero-le)) (k .1))
     go (refused d never e) = rw e (k .1)
 
 -- at every member the rows hold the messages of H
@@ -93,13 +78,15 @@ pub remembered-source : (s : Settings) (h : Shape s) (H : ℕ → List ℕ) (x :
     → remembered s rows (x .due) (p - r) r v ≡ source s H (x .due) p v r
 unfolding remembered source messageLen
 remembered-source s h H x rows k p v r hr from to hv =
-    k .1 (p - r) (r * s .lanes + v) (omega arith) (omega arith) (digits-lt hr hv)
+    let R : ℕ = nOf s - 1 in
+    let σ : ℕ = x .due + R - (p - r) in
+    k .1 σ (r * s .lanes + v) (omega arith) (omega arith) (digits-lt hr hv)
     ∙ ⊎-elim
     (λ le.
-    let slot : x .due + (nOf s - 1) - (p - r) - (nOf s - 1) ≡ x .due + r - p = omega arith in
-    shifted-from (nOf s - 1) H (x .due + (nOf s - 1) - (p - r)) (r * s .lanes + v) (omega arith)
-    ∙ ap (λ (t : ℕ). getD (H t) (r * s .lanes + v) 0) slot ∙ rw (le-leb p (x .due + r) le, source))
+    ap (λ (l : List ℕ). getD l (r * s .lanes + v) 0)
+    (ap (messagesOf s H) (omega arith) ∙ since-slot R 0 (λ _. []) H (x .due + r - p) zero-le)
+    ∙ rw (le-leb p (x .due + r) le, source))
     (λ more.
-    shifted-before (nOf s - 1) H (x .due + (nOf s - 1) - (p - r)) (r * s .lanes + v) (omega arith)
+    ap (λ (l : List ℕ). getD l (r * s .lanes + v) 0) (since-first R 0 (λ _. []) H σ (omega arith))
     ∙ rw (lt-leb p (x .due + r) more, source))
     (le-or-lt p (x .due + r))

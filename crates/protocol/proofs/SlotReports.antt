@@ -1,13 +1,15 @@
 -- Which slots of a chain were heard and which were lost: each slot up to that of an accepted report was one or the other.
 use mathlib.Core.Path.{_≡_, refl, sym, ap, _∙_}
-use mathlib.Core.Bool.{false}
+use mathlib.Core.Bool.{Bool, true, _||_}
 use mathlib.Core.List.{List, _∷_, List·Memᴰ, List·Memᴰ·head, List·Memᴰ·tail, List·Memᴰ·not-nil, List·Memᴰ·cases-cons}
 use mathlib.Core.Logic.{_⊎_, inl, inr, ⊎-elim}
 use mathlib.Core.Option.{Option, some}
-use Prim.Native.Nat.{ℕ, _≤_}
+use Prim.Native.Nat.{ℕ, _+_, _≤_, _<_}
 use native.Mathlib.Nat.{eq-or-lt-of-le}
 use native.Mathlib.Omega.{arith}
-use lib.Dec.{T}
+use lib.Dec.{T, ltb}
+use borrow.Author.Tests.{lt-ltb, le-ltb}
+use Rattle.galois.proofs.Cases.{le-or-lt}
 use Rattle.code.specs.declared.settings.Settings.{Settings}
 use Rattle.protocol.specs.TwoLists.{Report, heard, missed, ReportMade}
 use Rattle.protocol.specs.Histories.{accepts, ReportedAs, Heard, ofLoss, lostAt}
@@ -28,12 +30,11 @@ as-later x xs τ (call, a) = (
   },
 )
 
--- each slot from the first on, up to that of an accepted report, has its own
+-- each slot from the first on, before that of any report, has its own
 pub reported : {s : Settings} {d : ℕ} {rows : List ℕ} {told : List ReportMade} → Chain s d rows told
-    → (r : ReportMade) → List·Memᴰ r told → T (accepts (r .after .reply)) → (τ : ℕ) → d ≤ τ → τ ≤ r .before .due
-    → (call : Report) × ReportedAs told τ call
-reported done r m ok τ low high = absurd (List·Memᴰ·not-nil m)
-reported (onward {m = x} {rest = xs} h t rest) r m ok τ low high =
+    → (r : ReportMade) → List·Memᴰ r told → (τ : ℕ) → d ≤ τ → τ < r .before .due → (call : Report) × ReportedAs told τ call
+reported done r m τ low high = absurd (List·Memᴰ·not-nil m)
+reported (onward {m = x} {rest = xs} h t rest) r m τ low high =
     ⊎-elim
     (λ same. (
       x .call,
@@ -48,13 +49,38 @@ reported (onward {m = x} {rest = xs} h t rest) r m ok τ low high =
     (λ more.
     ⊎-elim
     (λ same. let due : r .before .due ≡ x .before .due = ap (λ (m : ReportMade). m .before .due) same in absurd (omega arith))
-    (λ later. as-later x xs τ (reported rest r later ok τ (omega arith) high)) (List·Memᴰ·cases-cons m))
+    (λ later. as-later x xs τ (reported rest r later τ (omega arith) high)) (List·Memᴰ·cases-cons m))
     (eq-or-lt-of-le low)
-reported (again {m = x} {rest = xs} h t rest) r m ok τ low high =
-    ⊎-elim (λ same. absurd (t .failed (rw same at ok))) (λ later. as-later x xs τ (reported rest r later ok τ low high))
-    (List·Memᴰ·cases-cons m)
+reported (again {m = x} {rest = xs} h t rest) r m τ low high =
+    ⊎-elim
+    (λ same. let due : r .before .due ≡ x .before .due = ap (λ (m : ReportMade). m .before .due) same in absurd (omega arith))
+    (λ later. as-later x xs τ (reported rest r later τ low high)) (List·Memᴰ·cases-cons m)
+
+-- and so has that of an accepted one
+pub reported-to : {s : Settings} {d : ℕ} {rows : List ℕ} {told : List ReportMade} → Chain s d rows told
+    → (r : ReportMade) → List·Memᴰ r told → T (accepts (r .after .reply)) → (τ : ℕ) → d ≤ τ → τ < r .before .due + 1
+    → (call : Report) × ReportedAs told τ call
+reported-to chain r listed ok τ low high =
+    ⊎-elim
+    (λ from. (r .call, record { report = r; listed = listed; passed = ok; slot = omega arith; called = refl }))
+    (λ before. reported chain r listed τ low before) (le-or-lt (r .before .due) τ)
+
+-- ---- lost or heard
+
+-- slot τ counts as a loss: it is before slot d, the first one, or was reported as a loss
+unfoldable pub lostSince : ℕ → List ReportMade → ℕ → Bool
+lostSince d told τ = ltb τ d || lostAt told τ
+
+pub lost-before : (d : ℕ) (told : List ReportMade) (τ : ℕ) → τ < d → lostSince d told τ ≡ true
+unfolding lostSince
+lost-before d told τ h = rw (lt-ltb τ d h)
+
+pub lost-from : (d : ℕ) (told : List ReportMade) (τ : ℕ) → d ≤ τ → lostSince d told τ ≡ lostAt told τ
+unfolding lostSince
+lost-from d told τ h = rw (le-ltb τ d h)
 
 module _ {s : Settings} {d : ℕ} {rows : List ℕ} {told : List ReportMade} (chain : Chain s d rows told) where
+  -- the report of a slot
   pub call-as : (τ : ℕ) (call : Report) → ReportedAs told τ call → callAt told τ ≡ some call
   call-as τ call a =
       ap (callAt told) (sym (a .slot)) ∙ call-of chain (a .report) (a .listed) (a .passed) ∙ ap {B = Option Report} some (a .called)
@@ -62,16 +88,7 @@ module _ {s : Settings} {d : ℕ} {rows : List ℕ} {told : List ReportMade} (ch
   pub lost-as : (τ : ℕ) (call : Report) → ReportedAs told τ call → lostAt told τ ≡ ofLoss call
   lost-as τ call a = lost-call chain τ ∙ ap lossIn (call-as τ call a)
 
-  -- a slot that was heard was not lost
-  pub heard-kept : (τ : ℕ) (frame : List ℕ) → Heard told τ frame → lostAt told τ ≡ false
-  heard-kept τ frame h = lost-as τ (heard frame (h .message)) (h .by)
-
-  either-way : (τ : ℕ) (call : Report) → ReportedAs told τ call → T (lostAt told τ) ⊎ ((f : List ℕ) × Heard told τ f)
+  -- a slot that was reported was lost or heard
+  pub either-way : (τ : ℕ) (call : Report) → ReportedAs told τ call → T (lostAt told τ) ⊎ ((f : List ℕ) × Heard told τ f)
   either-way τ (heard f m) a = inr (f, record { message = m; by = a })
   either-way τ (missed m) a = inl (rw (lost-as τ (missed m) a) tt)
-
-  -- each slot from the first on, up to that of an accepted report, was lost or heard
-  pub reported-below : (r : ReportMade) → List·Memᴰ r told → T (accepts (r .after .reply)) → (τ : ℕ) → d ≤ τ → τ ≤ r .before .due
-      → T (lostAt told τ) ⊎ ((f : List ℕ) × Heard told τ f)
-  reported-below r listed ok τ low high =
-      let found = reported chain r listed ok τ low high in either-way τ (found .0) (found .1)
