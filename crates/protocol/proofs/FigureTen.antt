@@ -19,9 +19,11 @@ use Rattle.galois.specs.Table.{table}
 use Rattle.code.specs.Matrix.{point, factor, product, spread, alphaEntry, entry}
 use Rattle.code.specs.Word.{wordAt, multipliers, symbol}
 use Rattle.repair.specs.Fair.{Fair, losses, runAt, oneRun, fairStretch}
+use Rattle.protocol.specs.declared.Receiver.{Receiver}
 use Rattle.protocol.specs.declared.Reply.the-variants as reply
 use Rattle.protocol.specs.Lengths.{lastSlot, messageLen, bodyLen, frameLen, senderLen, rowLen, rowCount, receiverLen}
 use Rattle.protocol.specs.Frame.{mark, five, slotBytes, header, remembered, sentSymbol, bodyOf, frameOf}
+use Rattle.protocol.specs.States.{receiverAt}
 use Rattle.protocol.specs.Rows.{putRow, joined}
 use Rattle.protocol.specs.Causes.{openCause, sendCause}
 use Rattle.protocol.specs.Calls.{openSenderOf, OpenedReceiver, openReceiverOf, receivedZeros, sendOf, Reported, movedOn}
@@ -29,7 +31,7 @@ use Rattle.protocol.specs.TwoLists.{Send, SendMade, sends, Report, heard
 use Rattle.protocol.specs.Histories.{Bytes, SentAs, accepts, ofLoss, lostAt}
 use Rattle.protocol.specs.Claim.{Faithful, NoCause, Holds, Demand3}
 use Rattle.protocol.proofs.ReportSteps.{made, Taken, step}
-use Rattle.protocol.proofs.ReportChain.{waiting, written, opened-receiver}
+use Rattle.protocol.proofs.ReportChain.{written, opened-receiver}
 use Rattle.protocol.proofs.Demand.{demand3}
 
 -- ---- the card
@@ -168,24 +170,28 @@ rowsTwo = written card 1 (missed lent) rowsOne
 unfoldable rowsThree : List ℕ
 rowsThree = written card 2 (heard frameTwo lent) rowsTwo
 
+-- the card's receiver with this slot due
+abbrev waiting : ℕ → Receiver
+waiting d = receiverAt card d
+
 -- the four reports
 abbrev reportZero : ReportMade
-reportZero = made (waiting card 0) rowsZero (missed lent)
+reportZero = made (waiting 0) rowsZero (missed lent)
 
 abbrev reportOne : ReportMade
-reportOne = made (waiting card 1) rowsOne (missed lent)
+reportOne = made (waiting 1) rowsOne (missed lent)
 
 abbrev reportTwo : ReportMade
-reportTwo = made (waiting card 2) rowsTwo (heard frameTwo lent)
+reportTwo = made (waiting 2) rowsTwo (heard frameTwo lent)
 
 abbrev reportThree : ReportMade
-reportThree = made (waiting card 3) rowsThree (heard frameThree lent)
+reportThree = made (waiting 3) rowsThree (heard frameThree lent)
 
 -- a report at exact rows that meets no cause is accepted
 accepted-report : (d : ℕ) (rows : List ℕ) (c : Report) → length rows ≡ receiverLen card → NoCause card d c
-    → Taken (made (waiting card d) rows c)
+    → Taken (made (waiting d) rows c)
 accepted-report d rows c exact free =
-    ⊎-elim (λ t. t) (λ t. absurd (t .caused free)) (step (waiting card d) rows card-accepted exact c)
+    ⊎-elim (λ t. t) (λ t. absurd (t .caused free)) (step (waiting d) rows card-accepted exact c)
 
 -- each of the four is
 taken-zero : Taken reportZero
@@ -208,19 +214,19 @@ unfolding rowsThree rowsTwo rowsOne rowsZero written putRow rowOf joined receive
 taken-three = accepted-report 3 rowsThree (heard frameThree lent) refl (refl, refl, omega arith, refl)
 
 -- an accepted report is followed by the reports of the next slot, on the rows that it wrote
-after-taken : (d : ℕ) (rows : List ℕ) (c : Report) (cs : List Report) → Taken (made (waiting card d) rows c)
-    → reports (waiting card d) rows (c ∷ cs)
-    ≡ made (waiting card d) rows c ∷ reports (waiting card (d + 1)) (written card d c rows) cs
+after-taken : (d : ℕ) (rows : List ℕ) (c : Report) (cs : List Report) → Taken (made (waiting d) rows c)
+    → reports (waiting d) rows (c ∷ cs)
+    ≡ made (waiting d) rows c ∷ reports (waiting (d + 1)) (written card d c rows) cs
 unfolding reports movedOn written
 after-taken d rows c cs t =
-    ap (λ (r : Reported). made (waiting card d) rows c ∷ reports (r .receiver) (r .rows) cs) (t .moved)
+    ap (λ (r : Reported). made (waiting d) rows c ∷ reports (r .receiver) (r .rows) cs) (t .moved)
 
 -- the reports made, one by one
 abbrev cardMade : List ReportMade
 cardMade = reportZero ∷ reportOne ∷ reportTwo ∷ reportThree ∷ []
 
 -- opening makes slot 0 due
-told-from : cardTold ≡ reports (waiting card 0) rowsZero cardReports
+told-from : cardTold ≡ reports (waiting 0) rowsZero cardReports
 unfolding cardTold rowsZero
 told-from =
     ap (λ (o : OpenedReceiver). reports (o .receiver) (o .rows) cardReports)
@@ -246,12 +252,12 @@ Own r =
     → (message : List ℕ) × SentAs cardSent (r .before .due) message f
 
 -- a loss brings no frame
-own-loss : (d : ℕ) (rows message : List ℕ) → Own (made (waiting card d) rows (missed message))
+own-loss : (d : ℕ) (rows message : List ℕ) → Own (made (waiting d) rows (missed message))
 own-loss d rows message f m e ok = let z : _≡_ {A = ℕ} 0 1 = cc in absurd (omega arith)
 
 -- a frame that was sent in its slot is its own
 own-frame : (d : ℕ) (rows frame buffer message : List ℕ) → SentAs cardSent d message frame
-    → Own (made (waiting card d) rows (heard frame buffer))
+    → Own (made (waiting d) rows (heard frame buffer))
 own-frame d rows frame buffer message a f m e ok =
     let same : frame ≡ f = cc in (message, subst (λ (g : List ℕ). SentAs cardSent d message g) same a)
 

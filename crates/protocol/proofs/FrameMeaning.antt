@@ -60,7 +60,7 @@ taken-send x rows message ok =
     let h : Shape s = shape s ok in
     let t : ℕ = x .due in
     record {
-      moved = refl;
+      moved = (refl, refl);
       written = refl;
       exact = length-frame 1 s rows message t;
       headed = frame-header 1 s rows message t;

@@ -23,6 +23,7 @@ use Rattle.protocol.specs.declared.Receiver.{Receiver}
 use Rattle.protocol.specs.declared.Reply.{Reply}
 use Rattle.protocol.specs.declared.Reply.the-variants as reply
 use Rattle.protocol.specs.Lengths.{messageLen, rowLen, rowCount}
+use Rattle.protocol.specs.States.{reportedOn}
 use Rattle.protocol.specs.Rows.{putRow}
 use Rattle.protocol.specs.Verdict.{arrived, symbolSaid, isClash, isLost, wholeByte, someCodeword, noneFits, twoDiffer}
 use Rattle.protocol.specs.Verdict.{verdict, sharedBytes, bufferOf}
@@ -66,7 +67,7 @@ quickMoved x row rows =
     let told : Reply = quickReply s now (x .due) in
     record {
       reply = told;
-      receiver = record { settings = s; due = x .due + 1 };
+      receiver = reportedOn x;
       rows = now;
       message = bufferBy s (quickSymbol s now (x .due + 1) (messageDue s (x .due))) told;
     }
@@ -235,7 +236,7 @@ quick-moved x ok row rows h hs =
     ∙ quick-buffer s ok now bytes (x .due + 1) (messageDue s (x .due)) (quickReply s now (x .due)) in
     λ i. record {
       reply = told i;
-      receiver = record { settings = s; due = x .due + 1 };
+      receiver = reportedOn x;
       rows = now;
       message = held i;
     }

@@ -19,7 +19,7 @@ use Rattle.protocol.specs.TwoLists.{Report, heard, ReportMade, rowOf}
 use Rattle.protocol.specs.Histories.{accepts}
 use Rattle.protocol.specs.Claim.{NoCause, ReportTaken}
 use Rattle.protocol.proofs.ReportSteps.{Taken, Stayed}
-use Rattle.protocol.proofs.ReportChain.{waiting, Chain, done, onward, again}
+use Rattle.protocol.proofs.ReportChain.{Chain, done, onward, again}
 
 -- what every report of a chain is
 pub record Along (s : Settings) (r : ReportMade) : Type 0 where
@@ -59,9 +59,12 @@ ByVerdict s t q =
     (q .reply ≡ verdict s (q .rows) (t + delayOf s + 1) t)
     × (q .message ≡ bufferOf s (q .rows) (t + delayOf s + 1) t (verdict s (q .rows) (t + delayOf s + 1) t))
 
-pub by-verdict : (s : Settings) (t : ℕ) (row rows : List ℕ) → ByVerdict s t (movedOn (waiting s (t + delayOf s)) row rows)
+pub by-verdict : (x : Receiver) (t : ℕ) (row rows : List ℕ) → x .due ≡ t + delayOf (x .settings)
+    → ByVerdict (x .settings) t (movedOn x row rows)
 unfolding movedOn messageDue
-by-verdict s t row rows = rw (le-ltb (t + delayOf s) (delayOf s) (omega arith), add-sub-cancel t (delayOf s)) (refl, refl)
+by-verdict x t row rows e =
+    let delay : ℕ = delayOf (x .settings) in
+    rw (e, le-ltb (t + delay) delay (omega arith), add-sub-cancel t delay) (refl, refl)
 
 module _ {s : Settings} {d : ℕ} {rows : List ℕ} {told : List ReportMade} (chain : Chain s d rows told) where
   -- a report is accepted exactly where no listed cause holds, in terms of the settings of the opening
@@ -82,8 +85,8 @@ module _ {s : Settings} {d : ℕ} {rows : List ℕ} {told : List ReportMade} (ch
   pub told-at : (r : ReportMade) (t : ℕ) → List·Memᴰ r told → T (accepts (r .after .reply)) → r .before .due ≡ t + delayOf s
       → ByVerdict s t (r .after)
   told-at r t listed ok e =
-      let taken = taken-of r listed ok in
-      let same : r .before ≡ waiting s (t + delayOf s) = λ i. record { settings = along chain r listed .settings i; due = e i } in
-      subst⁻¹ (ByVerdict s t) (taken .moved)
-      (subst⁻¹ (λ (x : Receiver). ByVerdict s t (movedOn x (rowOf (r .before .settings) (r .call)) (r .rows))) same
-      (by-verdict s t (rowOf (r .before .settings) (r .call)) (r .rows)))
+      let x : Receiver = r .before in
+      let same : x .settings ≡ s = along chain r listed .settings in
+      let due : x .due ≡ t + delayOf (x .settings) = rw same e in
+      subst (λ (q : Settings). ByVerdict q t (r .after)) same
+      (subst⁻¹ (ByVerdict (x .settings) t) (taken-of r listed ok .moved) (by-verdict x t (rowOf (x .settings) (r .call)) (r .rows) due))

@@ -14,9 +14,10 @@ use Rattle.protocol.specs.declared.Answer.the-variants as answer
 use Rattle.protocol.specs.declared.Reply.{Reply}
 use Rattle.protocol.specs.declared.Reply.the-variants as reply
 use Rattle.protocol.specs.Lengths.{senderLen, receiverLen}
+use Rattle.protocol.specs.States.{noSender, noReceiver}
 use Rattle.protocol.specs.Causes.{numberOf, Found, nothing, cause, check, Row, firstOf}
 use Rattle.protocol.specs.Causes.{openTable, sendTable, lossTable, frameTable, openCause, sendCause, lossCause, frameCause}
-use Rattle.protocol.specs.Calls.{noSettings, OpenedSender, openSenderOf, Sent, sendOf, OpenedReceiver, openReceiverOf}
+use Rattle.protocol.specs.Calls.{OpenedSender, openSenderOf, Sent, sendOf, OpenedReceiver, openReceiverOf}
 use Rattle.protocol.specs.Calls.{Reported, movedOn, lossOf, heardOf}
 use Rattle.protocol.specs.Histories.{accepts}
 use Rattle.protocol.specs.Refusals.{First, here, later, inOrder, Refuses, Demand1}
@@ -91,7 +92,7 @@ module _ (s : Settings) (rows : List ℕ) where
 
   -- a refused opening hands back a state of zeros, and the rows as they were
   pub open-sender-unchanged : (c : Cause) → First c (openTable s (senderLen s) rows)
-      → openSenderOf s rows ≡ record { answer = answer.Refused c; sender = record { settings = noSettings; due = 0 }; rows = rows }
+      → openSenderOf s rows ≡ record { answer = answer.Refused c; sender = noSender; rows = rows }
   unfolding openSenderOf openCause
   open-sender-unchanged c h = rw (first-found c (openTable s (senderLen s) rows) h, openSenderOf)
 
@@ -107,7 +108,7 @@ module _ (s : Settings) (rows : List ℕ) where
       (opened-receiver-by (openCause s (receiverLen s) rows) refl)
 
   pub open-receiver-unchanged : (c : Cause) → First c (openTable s (receiverLen s) rows)
-      → openReceiverOf s rows ≡ record { answer = answer.Refused c; receiver = record { settings = noSettings; due = 0 }; rows = rows }
+      → openReceiverOf s rows ≡ record { answer = answer.Refused c; receiver = noReceiver; rows = rows }
   unfolding openReceiverOf openCause
   open-receiver-unchanged c h = rw (first-found c (openTable s (receiverLen s) rows) h, openReceiverOf)
 

@@ -13,6 +13,7 @@ use Rattle.code.proofs.Shape.{Shape, shape}
 use Rattle.protocol.specs.declared.Receiver.{Receiver}
 use Rattle.protocol.specs.declared.Answer.the-variants as answer
 use Rattle.protocol.specs.Lengths.{bodyLen, rowLen, rowCount, receiverLen}
+use Rattle.protocol.specs.States.{openedReceiver, reportedOn}
 use Rattle.protocol.specs.Rows.{putRow, joined}
 use Rattle.protocol.specs.Calls.{Reported, movedOn, receivedZeros, openReceiverOf}
 use Rattle.protocol.specs.TwoLists.{Report, reportOf, ReportMade, reports, rowOf}
@@ -20,10 +21,6 @@ use Rattle.protocol.proofs.Rings.{length-putRow, length-joined}
 use Rattle.protocol.proofs.CauseTables.{open-nothing}
 use Rattle.protocol.proofs.ReportRows.{length-rowOf}
 use Rattle.protocol.proofs.ReportSteps.{made, Taken, Stayed, step}
-
--- the receiver with slot d due
-abbrev pub waiting : Settings → ℕ → Receiver
-waiting s d = record { settings = s; due = d }
 
 -- the rows once the report of slot d is accepted
 unfoldable pub written : Settings → ℕ → Report → List ℕ → List ℕ
@@ -61,42 +58,51 @@ pub length-receivedZeros : (s : Settings) → length (receivedZeros s) ≡ rowLe
 unfolding receivedZeros rowLen
 length-receivedZeros s = omega (arith, length-replicate {A = ℕ} (bodyLen s) 0)
 
-module _ (s : Settings) (ok : T (accepted s)) where
-  chain-taken : (d : ℕ) (rows : List ℕ) (c : Report) (cs : List Report) → length rows ≡ receiverLen s → Taken (made (waiting s d) rows c)
-      → Chain s (d + 1) (written s d c rows) (reports (waiting s (d + 1)) (written s d c rows) cs)
-      → Chain s d rows (reports (waiting s d) rows (c ∷ cs))
-  unfolding reports movedOn written
-  chain-taken d rows c cs exact t next =
-      onward (record { settings = refl; slot = refl; got = refl; exact = exact }) t
-      (subst⁻¹ (λ (r : Reported). Chain s (d + 1) (written s d c rows) (reports (r .receiver) (r .rows) cs)) (t .moved) next)
+-- the reports of a receiver are a chain from its slot due and these rows on
+abbrev Chained : Receiver → List ℕ → List ReportMade → Type 0
+Chained x rows told = Chain (x .settings) (x .due) rows told
 
-  chain-stayed : (d : ℕ) (rows : List ℕ) (c : Report) (cs : List Report) → length rows ≡ receiverLen s → Stayed (made (waiting s d) rows c)
-      → Chain s d rows (reports (waiting s d) rows cs) → Chain s d rows (reports (waiting s d) rows (c ∷ cs))
+-- the rows that it leaves where the report is accepted
+abbrev writtenBy : Receiver → Report → List ℕ → List ℕ
+writtenBy x call rows = written (x .settings) (x .due) call rows
+
+module _ (x : Receiver) (rows : List ℕ) (c : Report) (cs : List Report) (exact : length rows ≡ receiverLen (x .settings)) where
+  chain-taken : Taken (made x rows c)
+      → Chained (reportedOn x) (writtenBy x c rows) (reports (reportedOn x) (writtenBy x c rows) cs)
+      → Chained x rows (reports x rows (c ∷ cs))
+  unfolding reports movedOn written
+  chain-taken t next =
+      onward (record { settings = refl; slot = refl; got = refl; exact = exact }) t
+      (subst⁻¹ (λ (r : Reported). Chained (reportedOn x) (writtenBy x c rows) (reports (r .receiver) (r .rows) cs)) (t .moved) next)
+
+  chain-stayed : Stayed (made x rows c) → Chained x rows (reports x rows cs) → Chained x rows (reports x rows (c ∷ cs))
   unfolding reports
-  chain-stayed d rows c cs exact t next =
-      let r : Reported = reportOf (waiting s d) rows c in
-      let rest : Chain s d rows (reports (r .receiver) (r .rows) cs) = rw (t .same-receiver, t .same-rows) next in
+  chain-stayed t next =
+      let r : Reported = reportOf x rows c in
+      let rest : Chained x rows (reports (r .receiver) (r .rows) cs) = rw (t .same-receiver, t .same-rows) next in
       again (record { settings = refl; slot = refl; got = refl; exact = exact }) t rest
 
-  -- the reports of any calls are a chain, from any slot and any rows of the exact length
-  pub chain : (d : ℕ) (rows : List ℕ) (calls : List Report) → length rows ≡ receiverLen s
-      → Chain s d rows (reports (waiting s d) rows calls)
-  unfolding reports
-  chain d rows [] exact = done
-  chain d rows (c ∷ cs) exact =
-      ⊎-elim
-      (λ t.
-      chain-taken d rows c cs exact t
-      (chain (d + 1) (written s d c rows) cs
-      (length-written s d c rows (shape s ok) exact (length-rowOf s d c (t .uncaused)))))
-      (λ t. chain-stayed d rows c cs exact t (chain d rows cs exact)) (step (waiting s d) rows ok exact c)
+-- the reports of any calls are a chain, from any receiver with accepted settings and any rows of the exact length
+pub chain : (x : Receiver) → T (accepted (x .settings)) → (rows : List ℕ) (calls : List Report)
+    → length rows ≡ receiverLen (x .settings) → Chain (x .settings) (x .due) rows (reports x rows calls)
+unfolding reports
+chain x ok rows [] exact = done
+chain x ok rows (c ∷ cs) exact =
+    let s = x .settings in
+    ⊎-elim
+    (λ t.
+    chain-taken x rows c cs exact t
+    (chain (reportedOn x) ok (writtenBy x c rows) cs
+    (length-written s (x .due) c rows (shape s ok) exact (length-rowOf s (x .due) c (t .uncaused)))))
+    (λ t. chain-stayed x rows c cs exact t (chain x ok rows cs exact)) (step x rows ok exact c)
 
-  -- ---- from the opening on
+-- ---- from the opening on
 
+module _ (s : Settings) (ok : T (accepted s)) where
   -- opening makes slot 0 due, and the rows received zeros
   pub opened-receiver : (rows : List ℕ) → length rows ≡ receiverLen s
       → openReceiverOf s rows
-      ≡ record { answer = answer.Accepted; receiver = waiting s 0; rows = joined (rowCount s) (λ r. receivedZeros s) }
+      ≡ record { answer = answer.Accepted; receiver = openedReceiver s; rows = joined (rowCount s) (λ r. receivedZeros s) }
   unfolding openReceiverOf
   opened-receiver rows exact = rw (open-nothing s (receiverLen s) rows ok exact, openReceiverOf)
 
@@ -107,5 +113,5 @@ module _ (s : Settings) (ok : T (accepted s)) where
   unfolding receiverLen
   opened-chain rows exact calls =
       rw (opened-receiver rows exact)
-      (chain 0 (joined (rowCount s) (λ r. receivedZeros s)) calls
+      (chain (openedReceiver s) ok (joined (rowCount s) (λ r. receivedZeros s)) calls
       (length-joined (rowLen s) (rowCount s) (λ r. receivedZeros s) (λ r. length-receivedZeros s)))

@@ -25,7 +25,7 @@ use Rattle.protocol.specs.Meaning.{inTime, AllShare, Tells, AcceptedRepo
 use Rattle.protocol.proofs.NumberLaws.{reply-tells}
 use Rattle.protocol.proofs.VerdictMeaning.{verdict-clash, verdict-lost, verdict-else, whole-bytes, buffer-length, buffer-zeros}
 use Rattle.protocol.proofs.ReportSteps.{heard-moves, heard-stays, loss-moves, loss-stays}
-use Rattle.protocol.proofs.ReportChain.{waiting, opened-chain}
+use Rattle.protocol.proofs.ReportChain.{opened-chain}
 use Rattle.protocol.proofs.Received.{ByVerdict, by-verdict}
 use Rattle.protocol.proofs.ReceivedRows.{Reached, left-by, rowBefore, opened-rows}
 use Rattle.protocol.proofs.Arrivals.{known-came}
@@ -80,12 +80,11 @@ moved-report x call rows =
     let told : Reply = cond (ltb (x .due) (delayOf s)) reply.NoneYet (verdict s now (x .due + 1) t) in
     let none = none-by (ltb (x .due) (delayOf s)) (verdict s now (x .due + 1) t) (verdict-told s now (x .due + 1) t) in
     record {
-      moved = refl;
+      moved = (refl, refl);
       written = refl;
       none-yet = (λ e. ltb→lt (x .due) (delayOf s) (none .0 e), λ h. none .1 (lt→ltb (x .due) (delayOf s) h));
       tells = λ u e.
-          tells s u (movedOn x (rowOf s call) rows)
-          (subst⁻¹ (λ (d : ℕ). ByVerdict s u (movedOn (waiting s d) (rowOf s call) rows)) e (by-verdict s u (rowOf s call) rows));
+          tells s u (movedOn x (rowOf s call) rows) (by-verdict x u (rowOf s call) rows e);
       exact = buffer-length s now (x .due + 1) t told;
       zeros = buffer-zeros s now (x .due + 1) t told;
     }

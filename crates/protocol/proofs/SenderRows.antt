@@ -15,6 +15,7 @@ use Rattle.code.proofs.Shape.{Shape}
 use Rattle.protocol.specs.declared.Sender.{Sender}
 use Rattle.protocol.specs.declared.Answer.the-variants as answer
 use Rattle.protocol.specs.Lengths.{messageLen, senderLen}
+use Rattle.protocol.specs.States.{openedSender}
 use Rattle.protocol.specs.Frame.{remembered}
 use Rattle.protocol.specs.Codewords.{source}
 use Rattle.protocol.specs.Calls.{Sent, sendOf}
@@ -38,7 +39,7 @@ Follows H m = m .after .answer ≡ answer.Accepted → m .call .message ≡ H (m
 
 -- rows of zeros hold what comes before slot 0
 pub remembers-start : (s : Settings) (H : ℕ → List ℕ)
-    → Remembers s H (record { settings = s; due = 0 }) (replicate (senderLen s) 0)
+    → Remembers s H (openedSender s) (replicate (senderLen s) 0)
 unfolding senderLen
 remembers-start s H = (
   (refl, length-replicate (senderLen s) 0),

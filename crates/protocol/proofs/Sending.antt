@@ -3,7 +3,7 @@ use mathlib.Core.Path.{_≡_, refl, sym, ap, _∙_}
 use mathlib.Core.Bool.{Bool, _&&_}
 use mathlib.Core.Logic.{_↔_}
 use mathlib.Core.List.{List}
-use Prim.Native.Nat.{ℕ, _+_, _-_, _%_, _≤_}
+use Prim.Native.Nat.{ℕ, _-_, _%_, _≤_}
 use native.Mathlib.Omega.{arith}
 use lib.Dec.{T, eqb, eqb→eq}
 use lib.ListN.{length, replicate}
@@ -16,6 +16,7 @@ use Rattle.protocol.specs.declared.Cause.{Cause}
 use Rattle.protocol.specs.declared.Cause.the-variants.{BadSettings, BadLength, PastLastSlot}
 use Rattle.protocol.specs.declared.Answer.the-variants as answer
 use Rattle.protocol.specs.Lengths.{lastSlot, messageLen, frameLen, senderLen}
+use Rattle.protocol.specs.States.{openedSender, sentOn}
 use Rattle.protocol.specs.Frame.{frameOf}
 use Rattle.protocol.specs.Rows.{putRow}
 use Rattle.protocol.specs.Causes.{Found, nothing, cause, sendTable, sendCause}
@@ -27,7 +28,7 @@ use Rattle.protocol.proofs.CauseTables.{none-holds, passes, fails, open
 -- an accepted opening of the sender starts at slot 0 with rows of zeros
 pub opened-sender : (s : Settings) (rows : List ℕ) → T (accepted s) → length rows ≡ senderLen s
     → openSenderOf s rows
-    ≡ record { answer = answer.Accepted; sender = record { settings = s; due = 0 }; rows = replicate (senderLen s) 0 }
+    ≡ record { answer = answer.Accepted; sender = openedSender s; rows = replicate (senderLen s) 0 }
 unfolding openSenderOf
 opened-sender s rows ok full = rw (open-nothing s (senderLen s) rows ok full, openSenderOf)
 
@@ -45,7 +46,7 @@ pub record Sendable (x : Sender) (rows message frame : List ℕ) : Type 0 where
 abbrev pub takenSend : Sender → List ℕ → List ℕ → Sent
 takenSend x rows message = record {
   answer = answer.Accepted;
-  sender = record { settings = x .settings; due = x .due + 1 };
+  sender = sentOn x;
   rows = putRow (messageLen (x .settings)) (x .due % (nOf (x .settings) - 1)) message rows;
   frame = frameOf 1 (x .settings) rows message (x .due);
 }

@@ -13,14 +13,11 @@ use Rattle.protocol.specs.declared.Answer.the-variants as answer
 use Rattle.protocol.specs.declared.Reply.{Reply}
 use Rattle.protocol.specs.declared.Reply.the-variants as reply
 use Rattle.protocol.specs.Lengths.{messageLen, bodyLen, senderLen, rowLen, rowCount, receiverLen}
+use Rattle.protocol.specs.States.{openedSender, sentOn, noSender, openedReceiver, reportedOn, noReceiver}
 use Rattle.protocol.specs.Frame.{frameOf}
 use Rattle.protocol.specs.Rows.{putRow, joined}
 use Rattle.protocol.specs.Verdict.{verdict, bufferOf}
 use Rattle.protocol.specs.Causes.{nothing, cause, openCause, sendCause, lossCause, frameCause}
-
--- the settings of a refused opening's state
-unfoldable pub noSettings : Settings
-noSettings = record { window = 0; delay = 0; burst = 0; scattered = 0; lanes = 0 }
 
 -- ---- the sender
 
@@ -33,8 +30,8 @@ pub record OpenedSender : Type 0 where
 unfoldable pub openSenderOf : Settings → List ℕ → OpenedSender
 openSenderOf s rows =
     elim (openCause s (senderLen s) rows) [
-      | nothing ↦ record { answer = answer.Accepted; sender = record { settings = s; due = 0 }; rows = replicate (senderLen s) 0 }
-      | cause c ↦ record { answer = answer.Refused c; sender = record { settings = noSettings; due = 0 }; rows = rows }
+      | nothing ↦ record { answer = answer.Accepted; sender = openedSender s; rows = replicate (senderLen s) 0 }
+      | cause c ↦ record { answer = answer.Refused c; sender = noSender; rows = rows }
     ]
 
 pub record Sent : Type 0 where
@@ -49,7 +46,7 @@ sendOf x rows message frame =
     elim (sendCause x rows message frame) [
       | nothing ↦ record {
         answer = answer.Accepted;
-        sender = record { settings = x .settings; due = x .due + 1 };
+        sender = sentOn x;
         rows = putRow (messageLen (x .settings)) (x .due % (nOf (x .settings) - 1)) message rows;
         frame = frameOf 1 (x .settings) rows message (x .due);
       }
@@ -73,10 +70,10 @@ openReceiverOf s rows =
     elim (openCause s (receiverLen s) rows) [
       | nothing ↦ record {
         answer = answer.Accepted;
-        receiver = record { settings = s; due = 0 };
+        receiver = openedReceiver s;
         rows = joined (rowCount s) (λ r. receivedZeros s);
       }
-      | cause c ↦ record { answer = answer.Refused c; receiver = record { settings = noSettings; due = 0 }; rows = rows }
+      | cause c ↦ record { answer = answer.Refused c; receiver = noReceiver; rows = rows }
     ]
 
 pub record Reported : Type 0 where
@@ -98,7 +95,7 @@ movedOn x row rows =
     let told : Reply = cond (ltb (x .due) (delayOf s)) reply.NoneYet (verdict s now (x .due + 1) t) in
     record {
       reply = told;
-      receiver = record { settings = s; due = x .due + 1 };
+      receiver = reportedOn x;
       rows = now;
       message = bufferOf s now (x .due + 1) t told;
     }

@@ -5,6 +5,7 @@ pub mod Lengths
 pub mod Frame
 pub mod Codewords
 -- "What is remembered", and demand 2's verdict,
+pub mod States
 pub mod Rows
 pub mod Verdict
 -- "Why a call says no", and so each call,

@@ -48,11 +48,11 @@ pub record Share (s : Settings) (Such : (ℕ → ℕ) → Type 0) (p b : ℕ) : 
 abbrev pub symbolIn : Settings → List ℕ → ℕ → ℕ → ℕ
 symbolIn s frame p v = getD frame (14 + (p * s .lanes + v)) 0
 
--- an accepted send of slot t, whatever the rows hold: the slot due moves on, message t is written over its row, and the frame is the
--- header and the symbols that travel in slot t: those of message t, then those of the words whose first k symbols are the earlier
--- messages' as the rows held them
+-- an accepted send of slot t, whatever the rows hold: the settings stay, the slot due moves on, message t is written over its row, and
+-- the frame is the header and the symbols that travel in slot t: those of message t, then those of the words whose first k symbols are
+-- the earlier messages' as the rows held them
 pub record AcceptedSend (s : Settings) (t : ℕ) (rows message : List ℕ) (r : Sent) : Type 0 where
-  pub moved : r .sender ≡ record { settings = s; due = t + 1 }
+  pub moved : (r .sender .settings ≡ s) × (r .sender .due ≡ t + 1)
   pub written : r .rows ≡ putRow (messageLen s) (t % (nOf s - 1)) message rows
   pub exact : length (r .frame) ≡ frameLen s
   pub headed : take 14 (r .frame) ≡ header 1 s t
@@ -120,10 +120,10 @@ pub record Tells (s : Settings) (t : ℕ) (r : Reported) : Type 0 where
       ↔ ((SomeClash s (inTime s (r .rows) t) → ⊥) × (SomeLost s (inTime s (r .rows) t) → ⊥))
   pub shared : replyNumber (r .reply) ≡ 17 → AllShare s (inTime s (r .rows) t) (λ i v. getD (r .message) (i * s .lanes + v) 0)
 
--- an accepted report of slot due, whatever the rows say: the slot due moves on, its row is written, 16, "none yet", is told exactly
--- below slot T, the message buffer has its length, and zeros unless the message is whole
+-- an accepted report of slot due, whatever the rows say: the settings stay, the slot due moves on, its row is written, 16, "none yet",
+-- is told exactly below slot T, the message buffer has its length, and zeros unless the message is whole
 pub record AcceptedReport (s : Settings) (due : ℕ) (rows : List ℕ) (call : Report) (r : Reported) : Type 0 where
-  pub moved : r .receiver ≡ record { settings = s; due = due + 1 }
+  pub moved : (r .receiver .settings ≡ s) × (r .receiver .due ≡ due + 1)
   pub written : r .rows ≡ putRow (rowLen s) (due % rowCount s) (rowOf s call) rows
   pub none-yet : (replyNumber (r .reply) ≡ 16) ↔ (due < delayOf s)
   pub tells : (t : ℕ) → due ≡ t + delayOf s → Tells s t r

@@ -11,9 +11,10 @@ use Rattle.protocol.specs.declared.Sender.{Sender}
 use Rattle.protocol.specs.declared.Receiver.{Receiver}
 use Rattle.protocol.specs.declared.Cause.{Cause}
 use Rattle.protocol.specs.Lengths.{senderLen, receiverLen}
+use Rattle.protocol.specs.States.{noSender, noReceiver}
 use Rattle.protocol.specs.Causes.{numberOf, Row, openTable, sendTable, lossTable, frameTable}
 use Rattle.protocol.specs.Numbers.{answerNumber, replyNumber}
-use Rattle.protocol.specs.Calls.{noSettings, OpenedSender, openSenderOf, Sent, sendOf, OpenedReceiver, openReceiverOf}
+use Rattle.protocol.specs.Calls.{OpenedSender, openSenderOf, Sent, sendOf, OpenedReceiver, openReceiverOf}
 use Rattle.protocol.specs.Calls.{Reported, lossOf, heardOf}
 
 -- c is the first cause of the table that holds: its row does, and none above it
@@ -38,11 +39,11 @@ pub record Demand1 : Type 0 where
   pub open-sender : (s : Settings) (rows : List ℕ)
       → let r : OpenedSender = openSenderOf s rows in
       Refuses (openTable s (senderLen s) rows) (answerNumber (r .answer))
-      ((r .sender ≡ record { settings = noSettings; due = 0 }) × (r .rows ≡ rows))
+      ((r .sender ≡ noSender) × (r .rows ≡ rows))
   pub open-receiver : (s : Settings) (rows : List ℕ)
       → let r : OpenedReceiver = openReceiverOf s rows in
       Refuses (openTable s (receiverLen s) rows) (answerNumber (r .answer))
-      ((r .receiver ≡ record { settings = noSettings; due = 0 }) × (r .rows ≡ rows))
+      ((r .receiver ≡ noReceiver) × (r .rows ≡ rows))
   -- a refused send leaves the state, the rows and the lent frame as they were
   pub send : (x : Sender) (rows message frame : List ℕ)
       → let r : Sent = sendOf x rows message frame in

@@ -3,6 +3,7 @@
 mod header;
 mod lengths;
 mod slices;
+mod states;
 
 use code::Settings;
 pub use header::agrees;

@@ -20,11 +20,9 @@ pub fn loss(x: Receiver, rows: &mut [u8], message: &mut [u8]) -> Reported
     }
     record_lost(rows, s, x.due);
     let reply = told(s, x.due, rows, message);
+    let next = x.next();
     Reported {
         reply: reply,
-        receiver: Receiver {
-            settings: s,
-            due: x.due + 1,
-        },
+        receiver: next,
     }
 }

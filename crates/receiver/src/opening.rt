@@ -15,23 +15,11 @@ pub struct Opened {
     pub receiver: Receiver,
 }
 
-// The state of a refused opening: zeros.
-const CLOSED: Receiver = Receiver {
-    settings: Settings {
-        window: 0,
-        delay: 0,
-        burst: 0,
-        scattered: 0,
-        lanes: 0,
-    },
-    due: 0,
-};
-
 // Opens a receiver at slot 0, its rows received zeros.
 pub fn open(s: Settings, rows: &mut [u8]) -> Opened
     ensures { λ r. ⌜ record { answer = r .answer; receiver = r .receiver; rows = now (rows .exit) } ≡ openReceiverOf s (now (rows .entry)) ⌝ }
 {
-    let none = CLOSED;
+    let none = Receiver::NONE;
     if !s.accepted() {
         return Opened {
             answer: Answer::Refused(Cause::BadSettings),
@@ -47,9 +35,6 @@ pub fn open(s: Settings, rows: &mut [u8]) -> Opened
     receive_zeros(rows, row_len(s));
     Opened {
         answer: Answer::Accepted,
-        receiver: Receiver {
-            settings: s,
-            due: 0,
-        },
+        receiver: Receiver::opened(s),
     }
 }

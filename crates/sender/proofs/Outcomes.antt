@@ -14,15 +14,16 @@ use Rattle.protocol.specs.declared.Cause.{Cause}
 use Rattle.protocol.specs.declared.Cause.the-variants.{BadSettings, BadLength, PastLastSlot}
 use Rattle.protocol.specs.declared.Answer.the-variants as answer
 use Rattle.protocol.specs.Lengths.{lastSlot, messageLen, frameLen, senderLen}
+use Rattle.protocol.specs.States.{noSender}
 use Rattle.protocol.specs.Causes.{nothing, cause, openCause, sendCause}
-use Rattle.protocol.specs.Calls.{OpenedSender, noSettings, openSenderOf, sendOf}
+use Rattle.protocol.specs.Calls.{OpenedSender, openSenderOf, sendOf}
 use Rattle.protocol.proofs.CauseTables.{fails}
 use Rattle.protocol.proofs.Sending.{takenSend, refusedSend}
 
 -- ---- the opening
 
 abbrev pub refusedOpening : Cause → List ℕ → OpenedSender
-refusedOpening c rows = record { answer = answer.Refused c; sender = record { settings = noSettings; due = 0 }; rows = rows }
+refusedOpening c rows = record { answer = answer.Refused c; sender = noSender; rows = rows }
 
 module _ (s : Settings) (rows : List ℕ) where
   found-opening : (c : Cause) → openCause s (senderLen s) rows ≡ cause c → refusedOpening c rows ≡ openSenderOf s rows

@@ -25,23 +25,11 @@ pub struct Sent {
     pub sender: Sender,
 }
 
-// The state of a refused opening: zeros.
-const CLOSED: Sender = Sender {
-    settings: Settings {
-        window: 0,
-        delay: 0,
-        burst: 0,
-        scattered: 0,
-        lanes: 0,
-    },
-    due: 0,
-};
-
 // Opens a sender at slot 0, and zeroes its rows.
 pub fn open(s: Settings, rows: &mut [u8]) -> Opened
     ensures { λ r. ⌜ record { answer = r .answer; sender = r .sender; rows = now (rows .exit) } ≡ openSenderOf s (now (rows .entry)) ⌝ }
 {
-    let none = CLOSED;
+    let none = Sender::NONE;
     if !s.accepted() {
         return Opened {
             answer: Answer::Refused(Cause::BadSettings),
@@ -57,10 +45,7 @@ pub fn open(s: Settings, rows: &mut [u8]) -> Opened
     clear(rows);
     Opened {
         answer: Answer::Accepted,
-        sender: Sender {
-            settings: s,
-            due: 0,
-        },
+        sender: Sender::opened(s),
     }
 }
 
@@ -90,11 +75,9 @@ pub fn send(x: Sender, rows: &mut [u8], message: &[u8], frame: &mut [u8]) -> Sen
     }
     write_frame(frame, rows, message, s, x.due);
     remember(rows, message, s, x.due);
+    let next = x.next();
     Sent {
         answer: Answer::Accepted,
-        sender: Sender {
-            settings: s,
-            due: x.due + 1,
-        },
+        sender: next,
     }
 }

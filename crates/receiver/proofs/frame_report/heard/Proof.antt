@@ -16,7 +16,7 @@ use Rattle.protocol.proofs.ReportCauses.{FrameOpen, frame-open}
 use Rattle.protocol.proofs.ReportSteps.{heard-stays, heard-moves}
 use Rattle.causes.specs.Findings.{foundIn}
 use Rattle.ring.proofs.RowEnds.{kept}
-use Rattle.receiver.proofs.Outcomes.{moved-by, next-fits}
+use Rattle.receiver.proofs.Outcomes.{moved-by}
 use Rattle.receiver.proofs.frame_report.heard.Statement.{statement}
 use Rattle.receiver.proofs.frame_report.heard.Tie as tie
 
@@ -79,17 +79,15 @@ told-requires c κs =
 abbrev written : tie.After-told → tie.After-record-heard
 written c = c .before .before .before .before .before
 
-add : tie.Need-add-t20
-add c =
-    let at = free (written (c .before .before .before)) in
-    next-fits (begun at .args .x .due) (clear at .in-time)
+next-requires : tie.Need-next-requires
+next-requires c κs = clear (free (written (c .before .before))) .in-time
 
 returns-2 : tie.Need-returns-2
 returns-2 c =
     let at-told = c .before .before .before in
     let at-heard = written at-told in
     let a = begun (free at-heard) .args in
-    moved-by (a .x) (1 ∷ drop 14 (now (a .frame))) (now (a .rows)) _ _ _ (at-heard .record-heard .ensures)
+    moved-by (a .x) (1 ∷ drop 14 (now (a .frame))) (now (a .rows)) _ _ _ _ (c .next .ensures) (at-heard .record-heard .ensures)
     (at-told .told .ensures .0) (at-told .told .ensures .1)
     ∙ sym (heard-moves (a .x) (now (a .rows)) (now (a .frame)) (now (a .message)) (uncaused (free at-heard)))
 
@@ -106,7 +104,7 @@ heard-spec =
     (λ c. search needs)
     record-heard-requires
     told-requires
-    add
+    next-requires
     (λ c. written (c .before .before .before) .record-heard .kept .0)
     (λ c. c .before .before .before .told .kept .1 .1 .1 .0)
     returns-2)

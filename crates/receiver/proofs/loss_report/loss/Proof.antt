@@ -14,7 +14,7 @@ use Rattle.protocol.proofs.ReportCauses.{LossOpen, loss-open}
 use Rattle.protocol.proofs.ReportSteps.{loss-stays, loss-moves}
 use Rattle.causes.specs.Findings.{foundIn}
 use Rattle.ring.proofs.RowEnds.{kept}
-use Rattle.receiver.proofs.Outcomes.{moved-by, next-fits}
+use Rattle.receiver.proofs.Outcomes.{moved-by}
 use Rattle.receiver.proofs.loss_report.loss.Statement.{statement}
 use Rattle.receiver.proofs.loss_report.loss.Tie as tie
 
@@ -69,17 +69,15 @@ told-requires c κs =
 abbrev written : tie.After-told → tie.After-record-lost
 written c = c .before .before .before .before .before
 
-add : tie.Need-add-t19
-add c =
-    let at = free (written (c .before .before .before)) in
-    next-fits (begun at .args .x .due) (clear at .in-time)
+next-requires : tie.Need-next-requires
+next-requires c κs = clear (free (written (c .before .before))) .in-time
 
 returns-2 : tie.Need-returns-2
 returns-2 c =
     let at-told = c .before .before .before in
     let at-lost = written at-told in
     let a = begun (free at-lost) .args in
-    moved-by (a .x) (replicate (rowLen (a .x .settings)) 0) (now (a .rows)) _ _ _ (at-lost .record-lost .ensures)
+    moved-by (a .x) (replicate (rowLen (a .x .settings)) 0) (now (a .rows)) _ _ _ _ (c .next .ensures) (at-lost .record-lost .ensures)
     (at-told .told .ensures .0) (at-told .told .ensures .1)
     ∙ sym (loss-moves (a .x) (now (a .rows)) (now (a .message)) (uncaused (free at-lost)))
 
@@ -96,7 +94,7 @@ loss-spec =
     (λ c. search needs)
     record-lost-requires
     told-requires
-    add
+    next-requires
     (λ c. written (c .before .before .before) .record-lost .kept .0)
     (λ c. c .before .before .before .told .kept .1 .1 .1 .0)
     returns-2)

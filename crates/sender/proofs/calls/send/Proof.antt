@@ -4,10 +4,9 @@ use borrow.Author.Tests.{not-true, not-false}
 use mathlib.Core.Path.{_≡_, sym, ap₂, _∙_, subst⁻¹}
 use mathlib.Core.Bool.{true}
 use mathlib.Core.List.{List}
-use Prim.Native.Nat.{ℕ, _+_}
+use Prim.Native.Nat.{ℕ}
 use denote.Ref.{now}
 use lib.Dec.{T}
-use Rattle.code.specs.declared.settings.Settings.{Settings}
 use Rattle.code.specs.Settings.{accepted}
 use Rattle.protocol.specs.declared.Sender.{Sender}
 use Rattle.protocol.specs.declared.Answer.{Answer}
@@ -91,10 +90,12 @@ remember-requires c κs =
     let can = sendable (c .before .before .before .before .before .before) in
     (can .settled, can .rows-exact, can .message-exact)
 
--- an accepted send, by its rows and its frame
-abbrev accepted-send : Settings → ℕ → List ℕ → List ℕ → Sent
-accepted-send s due rows frame =
-    record { answer = answer.Accepted; sender = record { settings = s; due = due + 1 }; rows = rows; frame = frame }
+next-requires : tie.Need-next-requires
+next-requires c κs = sendable (c .before .before .before .before .before .before .before .before .before) .in-time
+
+-- an accepted send, by its state, rows and frame
+abbrev accepted-send : Sender → List ℕ → List ℕ → Sent
+accepted-send x rows frame = record { answer = answer.Accepted; sender = x; rows = rows; frame = frame }
 
 returns-4 : tie.Need-returns-4
 returns-4 c =
@@ -102,7 +103,7 @@ returns-4 c =
     let at-frame = at-remember .before .before .before .before in
     let last = at-frame .before .before .before in
     let a = start (last .before .before .before .before .before) .args in
-    ap₂ (accepted-send (a .x .settings) (a .x .due)) (at-remember .remember .ensures) (at-frame .write-frame .ensures)
+    (λ i. accepted-send (c .next .ensures i) (at-remember .remember .ensures i) (at-frame .write-frame .ensures i))
     ∙ send-taken (a .x) (now (a .rows)) (now (a .message)) (now (a .frame)) (none last)
 
 pub send-spec : {M : Type 1} → statement M
@@ -119,7 +120,7 @@ send-spec =
     returns-3
     write-frame-requires
     remember-requires
-    (λ c. search needs)
+    next-requires
     (λ c. search needs)
     (λ c. search needs)
     returns-4)
