@@ -11,7 +11,8 @@ use Rattle.protocol.specs.declared.Receiver.{Receiver}
 use Rattle.protocol.specs.declared.Cause.the-variants.{BadSettings, BadLength, PastLastSlot, OtherMark, OtherSettings, OtherSlot}
 use Rattle.protocol.specs.Lengths.{lastSlot, messageLen, frameLen, receiverLen}
 use Rattle.protocol.specs.Frame.{mark, five, slotBytes}
-use Rattle.protocol.specs.Causes.{nothing, cause, agree, lossCause, frameCause}
+use Rattle.protocol.specs.declared.Answer.the-variants as answer
+use Rattle.protocol.specs.Causes.{agree, lossCause, frameCause}
 use Rattle.protocol.proofs.CauseTables.{fails}
 
 -- ---- the report of a loss
@@ -21,22 +22,22 @@ abbrev pub lossLengths : Receiver → List ℕ → List ℕ → Bool
 lossLengths x rows message = eqb (length rows) (receiverLen (x .settings)) && eqb (length message) (messageLen (x .settings))
 
 module _ (x : Receiver) (rows message : List ℕ) where
-  pub loss-settings : accepted (x .settings) ≡ false → lossCause x rows message ≡ cause BadSettings
+  pub loss-settings : accepted (x .settings) ≡ false → lossCause x rows message ≡ answer.Refused BadSettings
   unfolding lossCause
   loss-settings e = rw e
 
   module _ (ok : T (accepted (x .settings))) where
-    pub loss-length : lossLengths x rows message ≡ false → lossCause x rows message ≡ cause BadLength
+    pub loss-length : lossLengths x rows message ≡ false → lossCause x rows message ≡ answer.Refused BadLength
     unfolding lossCause
     loss-length e = rw (fails (accepted (x .settings)) ok, e)
 
     module _ (exact : lossLengths x rows message ≡ true) where
-      pub loss-late : lastSlot < x .due → lossCause x rows message ≡ cause PastLastSlot
+      pub loss-late : lastSlot < x .due → lossCause x rows message ≡ answer.Refused PastLastSlot
       unfolding lossCause
       loss-late late =
           rw (fails (accepted (x .settings)) ok, exact, lt-ltb lastSlot (x .due) late)
 
-      pub loss-clear : x .due ≤ lastSlot → lossCause x rows message ≡ nothing
+      pub loss-clear : x .due ≤ lastSlot → lossCause x rows message ≡ answer.Accepted
       unfolding lossCause
       loss-clear time =
           rw (fails (accepted (x .settings)) ok, exact, le-ltb lastSlot (x .due) time)
@@ -48,43 +49,43 @@ frameLengths x rows frame message =
     eqb (length rows) (receiverLen (x .settings)) && eqb (length frame) (frameLen (x .settings)) && eqb (length message) (messageLen (x .settings))
 
 module _ (x : Receiver) (rows frame message : List ℕ) where
-  pub frame-settings : accepted (x .settings) ≡ false → frameCause x rows frame message ≡ cause BadSettings
+  pub frame-settings : accepted (x .settings) ≡ false → frameCause x rows frame message ≡ answer.Refused BadSettings
   unfolding frameCause
   frame-settings e = rw e
 
   module _ (ok : T (accepted (x .settings))) where
-    pub frame-length : frameLengths x rows frame message ≡ false → frameCause x rows frame message ≡ cause BadLength
+    pub frame-length : frameLengths x rows frame message ≡ false → frameCause x rows frame message ≡ answer.Refused BadLength
     unfolding frameCause
     frame-length e = rw (fails (accepted (x .settings)) ok, e)
 
     module _ (exact : frameLengths x rows frame message ≡ true) where
-      pub frame-late : lastSlot < x .due → frameCause x rows frame message ≡ cause PastLastSlot
+      pub frame-late : lastSlot < x .due → frameCause x rows frame message ≡ answer.Refused PastLastSlot
       unfolding frameCause
       frame-late late =
           rw (fails (accepted (x .settings)) ok, exact, lt-ltb lastSlot (x .due) late)
 
       module _ (time : x .due ≤ lastSlot) where
-        pub frame-mark : agree 5 frame (mark 1) ≡ false → frameCause x rows frame message ≡ cause OtherMark
+        pub frame-mark : agree 5 frame (mark 1) ≡ false → frameCause x rows frame message ≡ answer.Refused OtherMark
         unfolding frameCause
         frame-mark e =
             rw (fails (accepted (x .settings)) ok, exact, le-ltb lastSlot (x .due) time, e)
 
         module _ (marked : agree 5 frame (mark 1) ≡ true) where
           pub frame-five : agree 5 (drop 5 frame) (five (x .settings)) ≡ false
-              → frameCause x rows frame message ≡ cause OtherSettings
+              → frameCause x rows frame message ≡ answer.Refused OtherSettings
           unfolding frameCause
           frame-five e =
               rw (fails (accepted (x .settings)) ok, exact, le-ltb lastSlot (x .due) time, marked, e)
 
           module _ (own : agree 5 (drop 5 frame) (five (x .settings)) ≡ true) where
             pub frame-slot : agree 4 (drop 10 frame) (slotBytes (x .due)) ≡ false
-                → frameCause x rows frame message ≡ cause OtherSlot
+                → frameCause x rows frame message ≡ answer.Refused OtherSlot
             unfolding frameCause
             frame-slot e =
                 rw (fails (accepted (x .settings)) ok, exact, le-ltb lastSlot (x .due) time, marked, own, e)
 
             pub frame-clear : agree 4 (drop 10 frame) (slotBytes (x .due)) ≡ true
-                → frameCause x rows frame message ≡ nothing
+                → frameCause x rows frame message ≡ answer.Accepted
             unfolding frameCause
             frame-clear e =
                 rw (fails (accepted (x .settings)) ok, exact, le-ltb lastSlot (x .due) time, marked, own, e)

@@ -14,7 +14,6 @@ ghost use mathlib.Core.Path.{_≡_};
 ghost use lib.Dec.{eqb};
 ghost use Rattle.protocol.specs.Lengths.{messageLen, frameLen, receiverLen};
 ghost use Rattle.protocol.specs.Causes.{frameCause};
-ghost use Rattle.causes.specs.Findings.{foundIn};
 
 // Whether the rows, the frame and the message buffer have their lengths.
 fn exact_frame(s: Settings, rows: usize, frame: usize, message: usize) -> bool
@@ -31,7 +30,7 @@ fn exact_frame(s: Settings, rows: usize, frame: usize, message: usize) -> bool
 
 // The first cause that holds for the report of a frame, if any.
 pub fn frame_cause(x: Receiver, rows: &[u8], frame: &[u8], message: &[u8]) -> Answer
-    ensures { λ r. ⌜ foundIn r ≡ frameCause x (now (rows .entry)) (now (frame .entry)) (now (message .entry)) ⌝ }
+    ensures { λ r. ⌜ r ≡ frameCause x (now (rows .entry)) (now (frame .entry)) (now (message .entry)) ⌝ }
 {
     let s = x.settings;
     if !s.accepted() {

@@ -11,7 +11,6 @@ ghost use mathlib.Core.Path.{_≡_};
 ghost use lib.Dec.{eqb};
 ghost use Rattle.protocol.specs.Lengths.{messageLen, receiverLen};
 ghost use Rattle.protocol.specs.Causes.{lossCause};
-ghost use Rattle.causes.specs.Findings.{foundIn};
 
 // Whether the rows and the message buffer have their lengths.
 fn exact(s: Settings, rows: usize, message: usize) -> bool
@@ -25,7 +24,7 @@ fn exact(s: Settings, rows: usize, message: usize) -> bool
 
 // The first cause that holds for the report of a loss, if any.
 pub fn loss_cause(x: Receiver, rows: &[u8], message: &[u8]) -> Answer
-    ensures { λ r. ⌜ foundIn r ≡ lossCause x (now (rows .entry)) (now (message .entry)) ⌝ }
+    ensures { λ r. ⌜ r ≡ lossCause x (now (rows .entry)) (now (message .entry)) ⌝ }
 {
     let s = x.settings;
     if !s.accepted() {

@@ -15,7 +15,7 @@ use Rattle.protocol.specs.declared.Reply.{Reply}
 use Rattle.protocol.specs.declared.Reply.the-variants as reply
 use Rattle.protocol.specs.Lengths.{messageLen, receiverLen}
 use Rattle.protocol.specs.Verdict.{verdict, bufferOf}
-use Rattle.protocol.specs.Causes.{nothing, cause}
+use Rattle.protocol.specs.declared.Answer.the-variants as answer
 use Rattle.protocol.proofs.CauseTables.{fails}
 use Rattle.decision.specs.Call.{Decision, decisionCause, decisionOf}
 
@@ -25,7 +25,7 @@ outcome r message = record { reply = r; message = message }
 
 module _ (s : Settings) (rows : List ℕ) (due t : ℕ) (message : List ℕ) where
   -- a cause that is found is refused
-  found : (c : Cause) → decisionCause s rows message ≡ cause c → outcome (reply.Refused c) message ≡ decisionOf s rows due t message
+  found : (c : Cause) → decisionCause s rows message ≡ answer.Refused c → outcome (reply.Refused c) message ≡ decisionOf s rows due t message
   unfolding decisionOf
   found c e = rw (e, decisionOf)
 
@@ -50,7 +50,7 @@ module _ (s : Settings) (rows : List ℕ) (due t : ℕ) (message : List ℕ) whe
 
       module _ (fits : length message ≡ messageLen s) where
         -- else no cause holds
-        no-cause : decisionCause s rows message ≡ nothing
+        no-cause : decisionCause s rows message ≡ answer.Accepted
         unfolding decisionCause
         no-cause =
             rw (fails (accepted s) ok, eq-eqb (length rows) (receiverLen s) full, eq-eqb (length message) (messageLen s) fits)

@@ -1,6 +1,6 @@
 -- The decision on one message as a function of everything that is lent, for any input at all.
 use mathlib.Core.Bool.{not, _&&_}
-use mathlib.Core.List.{List}
+use mathlib.Core.List.{List, [], _∷_}
 use Prim.Native.Nat.{ℕ}
 use lib.Dec.{eqb}
 use lib.ListN.{length}
@@ -11,14 +11,19 @@ use Rattle.protocol.specs.declared.Reply.{Reply}
 use Rattle.protocol.specs.declared.Reply.the-variants as reply
 use Rattle.protocol.specs.Lengths.{messageLen, receiverLen}
 use Rattle.protocol.specs.Verdict.{verdict, bufferOf}
-use Rattle.protocol.specs.Causes.{Found, nothing, cause, check}
+use Rattle.protocol.specs.declared.Answer.{Answer}
+use Rattle.protocol.specs.declared.Answer.the-variants as answer
+use Rattle.protocol.specs.Causes.{Row, row, firstOf}
 
 -- a decision meets 1 and 2
-unfoldable pub decisionCause : Settings → List ℕ → List ℕ → Found
-decisionCause s rows message =
-    check (not (accepted s)) BadSettings
-    (check (not (eqb (length rows) (receiverLen s) && eqb (length message) (messageLen s))) BadLength
-    nothing)
+abbrev pub decisionTable : Settings → List ℕ → List ℕ → List Row
+decisionTable s rows message =
+    row (not (accepted s)) BadSettings
+    ∷ row (not (eqb (length rows) (receiverLen s) && eqb (length message) (messageLen s))) BadLength
+    ∷ []
+
+unfoldable pub decisionCause : Settings → List ℕ → List ℕ → Answer
+decisionCause s rows message = firstOf (decisionTable s rows message)
 
 -- what a decision answers, and the message buffer after it
 pub record Decision : Type 0 where
@@ -29,6 +34,6 @@ pub record Decision : Type 0 where
 unfoldable pub decisionOf : Settings → List ℕ → ℕ → ℕ → List ℕ → Decision
 decisionOf s rows due t message =
     elim (decisionCause s rows message) [
-      | nothing ↦ record { reply = verdict s rows due t; message = bufferOf s rows due t (verdict s rows due t) }
-      | cause c ↦ record { reply = reply.Refused c; message = message }
+      | answer.Accepted ↦ record { reply = verdict s rows due t; message = bufferOf s rows due t (verdict s rows due t) }
+      | answer.Refused c ↦ record { reply = reply.Refused c; message = message }
     ]

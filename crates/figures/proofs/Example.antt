@@ -21,7 +21,8 @@ use Rattle.protocol.specs.declared.Receiver.{Receiver}
 use Rattle.protocol.specs.Lengths.{lastSlot, messageLen, bodyLen, frameLen, rowLen, rowCount, receiverLen}
 use Rattle.protocol.specs.Rows.{putRow, joined}
 use Rattle.protocol.specs.Frame.{mark, five, slotBytes, header}
-use Rattle.protocol.specs.Causes.{nothing, cause, agree, openCause, lossCause, frameCause}
+use Rattle.protocol.specs.declared.Answer.the-variants as answer
+use Rattle.protocol.specs.Causes.{agree, openCause, lossCause, frameCause}
 use Rattle.protocol.specs.Verdict.{rowAt, reportedAt, arrived, someCodeword}
 use Rattle.protocol.specs.Calls.{OpenedReceiver, receivedZeros, openReceiverOf, Reported, messageDue, lossOf, heardOf}
 use Rattle.protocol.specs.TwoLists.{Report, heard, missed, reportOf}
@@ -41,8 +42,8 @@ unfoldable quickPlayed : List (List ℕ) → Rest
 quickPlayed [] x rows message = []
 quickPlayed (frame ∷ frames) x rows message =
     elim (frameStop x frame) [
-      | cause c ↦ stopLine c
-      | nothing ↦
+      | answer.Refused c ↦ stopLine c
+      | answer.Accepted ↦
           quickSkipped (slotIn frame - x .due)
           (λ y rows' message'. andThen y (quickReport y rows' (heard frame message')) (quickPlayed frames)) x rows message
     ]
@@ -91,7 +92,7 @@ module _ (frame : List ℕ) (bytes : T (small frame)) (frames : List (List ℕ))
   frame-alike : Alike (played (frame ∷ frames)) (quickPlayed (frame ∷ frames))
   unfolding played quickPlayed Alike
   frame-alike x ok rows hs message =
-      ap (λ (rest : List ℕ). elim (frameStop x frame) [ cause c ↦ stopLine c | nothing ↦ rest ])
+      ap (λ (rest : List ℕ). elim (frameStop x frame) [ answer.Refused c ↦ stopLine c | answer.Accepted ↦ rest ])
       (skipped-alike (slotIn frame - x .due) slowly quickly heard-alike x ok rows hs message)
 
 played-alike : (frames : List (List ℕ)) → T (smallAll frames) → Alike (played frames) (quickPlayed frames)

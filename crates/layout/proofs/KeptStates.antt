@@ -1,6 +1,6 @@
 -- What is read back from a state that was written, and what the causes of a state say.
 use mathlib.Core.Path.{_≡_, refl, sym}
-use mathlib.Core.Bool.{Bool, true, false, not}
+use mathlib.Core.Bool.{true}
 use mathlib.Core.List.{List}
 use native.Mathlib.Nat.{div-add-mod', div-div-eq-div-mul, div-lt-iff-lt-mul, mod-eq-of-lt}
 use native.Mathlib.Omega.{arith}
@@ -10,13 +10,13 @@ use lib.ListN.{length}
 use borrow.Author.Tests.{eq-eqb}
 use Rattle.galois.specs.Bounded.{every}
 use Rattle.code.specs.declared.settings.Settings.{Settings}
-use Rattle.protocol.specs.declared.Cause.{Cause}
-use Rattle.protocol.specs.declared.Cause.the-variants.{BadSettings, BadLength}
+use Rattle.protocol.specs.declared.Cause.the-variants.{BadLength}
 use Rattle.protocol.specs.Lengths.{lastSlot}
 use Rattle.protocol.specs.Frame.{five, slotBytes}
-use Rattle.protocol.specs.Causes.{Found, nothing, cause, check, agree}
-use Rattle.protocol.proofs.CauseTables.{check-nothing, passes}
-use Rattle.layout.specs.State.{markOf, stateBytes, stateLen, settingsAt, slotAt, senderIn, receiverIn, stateCause}
+use Rattle.protocol.specs.declared.Answer.the-variants as answer
+use Rattle.protocol.specs.Causes.{agree}
+use Rattle.protocol.proofs.CauseTables.{none-holds, passes}
+use Rattle.layout.specs.State.{markOf, stateBytes, stateLen, settingsAt, slotAt, senderIn, receiverIn, stateTable, stateCause}
 use Rattle.layout.proofs.StateBytes.{length-state}
 
 -- ---- reading back what was written
@@ -44,7 +44,7 @@ module _ (end : ℕ) (s : Settings) (due : ℕ) where
   marked = rw (eq-eqb end end refl) refl
 
   -- so a state that was written gives no cause
-  pub state-uncaused : stateCause end (stateBytes end s due) nothing ≡ nothing
+  pub state-uncaused : stateCause end (stateBytes end s due) ≡ answer.Accepted
   unfolding stateCause
   state-uncaused = rw (eq-eqb _ _ (length-state end s due), marked)
 
@@ -60,41 +60,8 @@ module _ (end : ℕ) (s : Settings) (due : ℕ) where
 
 -- ---- the causes that a state gives
 
-module _ (end : ℕ) (state : List ℕ) where
-  abbrev otherLength : Bool
-  otherLength = not (eqb (length state) stateLen)
-
-  abbrev otherMark : Bool
-  otherMark = not (agree 4 state (markOf end))
-
-  -- where nothing is found, neither holds, and the rest finds nothing
-  none-holds : (rest : Found) → stateCause end state rest ≡ nothing → (otherLength ≡ false) × (otherMark ≡ false) × (rest ≡ nothing)
-  unfolding stateCause
-  none-holds rest e =
-      let sized = check-nothing otherLength BadLength (check otherMark BadSettings rest) e in
-      let named = check-nothing otherMark BadSettings rest (sized .1) in
-      (sized .0, named .0, named .1)
-
-  pub uncaused-after : (rest : Found) → stateCause end state rest ≡ nothing → rest ≡ nothing
-  uncaused-after rest e = none-holds rest e .2
-
-  module _ (none : stateCause end state nothing ≡ nothing) where
-    -- a state that gives none has its length
-    pub uncaused-length : length state ≡ stateLen
-    uncaused-length = eqb→eq (length state) stateLen (passes (eqb (length state) stateLen) (none-holds nothing none .0))
-
-    -- and the rest of the table decides
-    pub uncaused-rest : (rest : Found) → stateCause end state rest ≡ rest
-    unfolding stateCause
-    uncaused-rest rest = rw (none-holds nothing none .0, none-holds nothing none .1)
-
-  -- where a state gives a cause, the rest of the table is not looked at
-  pub caused-rest : (c : Cause) → stateCause end state nothing ≡ cause c → (rest : Found) → stateCause end state rest ≡ cause c
-  unfolding stateCause
-  caused-rest c e rest = go otherLength otherMark e
-    where
-      go : (p q : Bool) → check p BadLength (check q BadSettings nothing) ≡ cause c
-          → check p BadLength (check q BadSettings rest) ≡ cause c
-      go true q e = e
-      go false true e = e
-      go false false e = cc
+-- a state that gives none has its length
+pub uncaused-length : (end : ℕ) (state : List ℕ) → stateCause end state ≡ answer.Accepted → length state ≡ stateLen
+unfolding stateCause
+uncaused-length end state none =
+    eqb→eq (length state) stateLen (passes (eqb (length state) stateLen) (none-holds (stateTable end state) none BadLength))

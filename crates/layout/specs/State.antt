@@ -9,7 +9,8 @@ use Rattle.protocol.specs.declared.Sender.{Sender}
 use Rattle.protocol.specs.declared.Receiver.{Receiver}
 use Rattle.protocol.specs.declared.Cause.the-variants.{BadSettings, BadLength}
 use Rattle.protocol.specs.Frame.{five, slotBytes}
-use Rattle.protocol.specs.Causes.{Found, check, agree}
+use Rattle.protocol.specs.declared.Answer.{Answer}
+use Rattle.protocol.specs.Causes.{Row, row, firstOf, agree}
 
 -- ---- what is written
 
@@ -66,8 +67,11 @@ receiverIn state = record { settings = settingsAt 4 state; due = slotAt 9 state 
 
 -- the causes that a state's bytes give, before those that the call finds in what they keep: at another length no settings can be read, so
 -- that is 2; with another mark it holds no settings of this end, so that is 1
-unfoldable pub stateCause : ℕ → List ℕ → Found → Found
-stateCause end state rest =
-    check (not (eqb (length state) stateLen)) BadLength
-    (check (not (agree 4 state (markOf end))) BadSettings
-    rest)
+abbrev pub stateTable : ℕ → List ℕ → List Row
+stateTable end state =
+    row (not (eqb (length state) stateLen)) BadLength
+    ∷ row (not (agree 4 state (markOf end))) BadSettings
+    ∷ []
+
+unfoldable pub stateCause : ℕ → List ℕ → Answer
+stateCause end state = firstOf (stateTable end state)

@@ -8,8 +8,7 @@ use protocol::write_at;
 ghost use mathlib.Core.Path.{_≡_};
 ghost use Prim.Native.Nat.{_+_, _*_, _≤_};
 ghost use lib.ListN.{length};
-ghost use Rattle.protocol.specs.Causes.{nothing, agree};
-ghost use Rattle.causes.specs.Findings.{foundIn};
+ghost use Rattle.protocol.specs.Causes.{agree};
 ghost use Rattle.layout.specs.State.{markOf, stateBytes, stateLen, saved};
 ghost use Rattle.layout.specs.State.{settingsAt, slotAt, senderIn, receiverIn, stateCause};
 
@@ -103,7 +102,7 @@ fn is_marked(end: u8, bytes: &[u8]) -> bool
 
 // The first cause that a state of this end gives, before those of the call on what it keeps.
 pub fn state_cause(end: u8, state: &[u8]) -> Answer
-    ensures { λ r. ⌜ foundIn r ≡ stateCause end (now (state .entry)) nothing ⌝ }
+    ensures { λ r. ⌜ r ≡ stateCause end (now (state .entry)) ⌝ }
 {
     if state.len() != STATE_LEN {
         return Answer::Refused(Cause::BadLength);

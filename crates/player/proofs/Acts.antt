@@ -13,9 +13,11 @@ use Rattle.protocol.specs.declared.Cause.{Cause}
 use Rattle.protocol.specs.declared.Cause.the-variants.{BadLength, OtherMark, OtherSettings, OtherSlot}
 use Rattle.protocol.specs.Lengths.{frameLen, rowLen}
 use Rattle.protocol.specs.Frame.{mark, five}
-use Rattle.protocol.specs.Causes.{Found, nothing, cause, check, agree, lossCause, frameCause}
+use Rattle.protocol.specs.declared.Answer.{Answer}
+use Rattle.protocol.specs.declared.Answer.the-variants as answer
+use Rattle.protocol.specs.Causes.{check, agree, lossCause, frameCause}
 use Rattle.protocol.specs.Calls.{movedOn, lossOf, heardOf}
-use Rattle.protocol.proofs.CauseTables.{check-nothing}
+use Rattle.protocol.proofs.CauseTables.{check-clear}
 use Rattle.protocol.proofs.ReportSteps.{loss-moves, loss-stays, heard-moves, heard-stays}
 use Rattle.recording.specs.declared.Found.the-variants.{Part}
 use Rattle.recording.specs.Found.{foundAt}
@@ -45,9 +47,9 @@ pub loss-onward : (x : Receiver) (rows message : List ℕ) → refuses (lossOf x
     → lossOf x rows message .receiver ≡ onward x
 loss-onward x rows message e = go (lossCause x rows message) refl
   where
-    go : (f : Found) → lossCause x rows message ≡ f → lossOf x rows message .receiver ≡ onward x
-    go nothing is = rw (loss-moves x rows message is) (moved-onward x (replicate (rowLen (x .settings)) 0) rows)
-    go (cause c) is =
+    go : (f : Answer) → lossCause x rows message ≡ f → lossOf x rows message .receiver ≡ onward x
+    go answer.Accepted is = rw (loss-moves x rows message is) (moved-onward x (replicate (rowLen (x .settings)) 0) rows)
+    go (answer.Refused c) is =
         let no : true ≡ false = rw (loss-stays x rows message c is) at e in
         let z : _≡_ {A = ℕ} 0 1 = cc in absurd (omega arith)
 
@@ -56,9 +58,9 @@ pub heard-onward : (x : Receiver) (rows frame message : List ℕ) → refuses (h
     → heardOf x rows frame message .receiver ≡ onward x
 heard-onward x rows frame message e = go (frameCause x rows frame message) refl
   where
-    go : (f : Found) → frameCause x rows frame message ≡ f → heardOf x rows frame message .receiver ≡ onward x
-    go nothing is = rw (heard-moves x rows frame message is) (moved-onward x (1 ∷ drop 14 frame) rows)
-    go (cause c) is =
+    go : (f : Answer) → frameCause x rows frame message ≡ f → heardOf x rows frame message .receiver ≡ onward x
+    go answer.Accepted is = rw (heard-moves x rows frame message is) (moved-onward x (1 ∷ drop 14 frame) rows)
+    go (answer.Refused c) is =
         let no : true ≡ false = rw (heard-stays x rows frame message c is) at e in
         let z : _≡_ {A = ℕ} 0 1 = cc in absurd (omega arith)
 
@@ -78,15 +80,15 @@ pub record Passing (x : Receiver) (frame : List ℕ) : Type 0 where
 
 module _ (x : Receiver) (frame : List ℕ) where
   -- a frame that doesn't stop the player passes
-  pub stop-passing : frameStop x frame ≡ nothing → Passing x frame
+  pub stop-passing : frameStop x frame ≡ answer.Accepted → Passing x frame
   unfolding frameStop
   stop-passing e =
       let slot : Bool = ltb (slotIn frame) (x .due) || ltb (x .due + 4095) (slotIn frame) in
       let settings : Bool = not (agree 5 (drop 5 frame) (five (x .settings))) in
       let a =
-      check-nothing (not (agree 5 frame (mark 1))) OtherMark (check settings OtherSettings (check slot OtherSlot nothing)) e in
-      let b = check-nothing settings OtherSettings (check slot OtherSlot nothing) (a .1) in
-      let c = check-nothing slot OtherSlot nothing (b .1) in
+      check-clear (not (agree 5 frame (mark 1))) OtherMark (check settings OtherSettings (check slot OtherSlot answer.Accepted)) e in
+      let b = check-clear settings OtherSettings (check slot OtherSlot answer.Accepted) (a .1) in
+      let c = check-clear slot OtherSlot answer.Accepted (b .1) in
       let d = neither (ltb (slotIn frame) (x .due)) (ltb (x .due + 4095) (slotIn frame)) (c .0) in
       record {
         marked = a .0;
@@ -96,7 +98,7 @@ module _ (x : Receiver) (frame : List ℕ) where
       }
 
   -- and the other way round
-  pub passing-stop : Passing x frame → frameStop x frame ≡ nothing
+  pub passing-stop : Passing x frame → frameStop x frame ≡ answer.Accepted
   unfolding frameStop
   passing-stop h =
       rw (
@@ -107,7 +109,7 @@ module _ (x : Receiver) (frame : List ℕ) where
       )
 
   -- a frame that passes where its slot is above the slot due passes at the next slot too
-  pub passing-onward : frameStop x frame ≡ nothing → x .due < slotIn frame → Passing (onward x) frame
+  pub passing-onward : frameStop x frame ≡ answer.Accepted → x .due < slotIn frame → Passing (onward x) frame
   passing-onward e above =
       let h = stop-passing e in
       record { marked = h .marked; own = h .own; low = omega arith; high = omega arith }
@@ -147,19 +149,19 @@ module _ (recording : List ℕ) (p : Player) (fits : p .offset + frameLen (p .re
       rw (frame-stands recording (p .offset) size (frame-some (p .receiver .settings)) fits, actOf, same)
 
   -- a frame that stops the player
-  pub act-stop : (c : Cause) → frameStop (p .receiver) (frameAt recording p) ≡ cause c
+  pub act-stop : (c : Cause) → frameStop (p .receiver) (frameAt recording p) ≡ answer.Refused c
       → actOf p recording rows message ≡ stopAct p rows message c
   unfolding frameAct
   act-stop c e = rw (act-frame, frameAct, e)
 
   -- a frame above the slot due: the slot due is a loss
-  pub act-loss : frameStop (p .receiver) (frameAt recording p) ≡ nothing → p .receiver .due < slotIn (frameAt recording p)
+  pub act-loss : frameStop (p .receiver) (frameAt recording p) ≡ answer.Accepted → p .receiver .due < slotIn (frameAt recording p)
       → actOf p recording rows message ≡ reportAct (p .receiver) (p .offset) (lossOf (p .receiver) rows message)
   unfolding frameAct
   act-loss e above = rw (act-frame, frameAct, e, lt-ltb (p .receiver .due) (slotIn (frameAt recording p)) above)
 
   -- a frame at the slot due: it is reported
-  pub act-heard : frameStop (p .receiver) (frameAt recording p) ≡ nothing → slotIn (frameAt recording p) ≤ p .receiver .due
+  pub act-heard : frameStop (p .receiver) (frameAt recording p) ≡ answer.Accepted → slotIn (frameAt recording p) ≤ p .receiver .due
       → actOf p recording rows message
       ≡ reportAct (p .receiver) (p .offset + frameLen (p .receiver .settings)) (heardOf (p .receiver) rows (frameAt recording p) message)
   unfolding frameAct
@@ -170,19 +172,19 @@ module _ (recording : List ℕ) (p : Player) (fits : p .offset + frameLen (p .re
 module _ (p : Player) (recording rows message : List ℕ) (Q : Act → Type 0)
     (ended : Q (endAct p rows message))
     (stopped : (c : Cause) → Q (stopAct p rows message c))
-    (lost : frameStop (p .receiver) (frameAt recording p) ≡ nothing → p .receiver .due < slotIn (frameAt recording p)
+    (lost : frameStop (p .receiver) (frameAt recording p) ≡ answer.Accepted → p .receiver .due < slotIn (frameAt recording p)
     → Q (reportAct (p .receiver) (p .offset) (lossOf (p .receiver) rows message)))
     (heard : p .offset + frameLen (p .receiver .settings) ≤ length recording
     → Q (reportAct (p .receiver) (p .offset + frameLen (p .receiver .settings)) (heardOf (p .receiver) rows (frameAt recording p) message))) where
   -- at a frame, by its tests
   at-frame : p .offset + frameLen (p .receiver .settings) ≤ length recording
-      → (f : Found) → frameStop (p .receiver) (frameAt recording p) ≡ f
+      → (f : Answer) → frameStop (p .receiver) (frameAt recording p) ≡ f
       → (b : Bool) → ltb (p .receiver .due) (slotIn (frameAt recording p)) ≡ b → Q (actOf p recording rows message)
-  at-frame fits (cause c) e b test = rw (act-stop recording p fits rows message c e) (stopped c)
-  at-frame fits nothing e true test =
+  at-frame fits (answer.Refused c) e b test = rw (act-stop recording p fits rows message c e) (stopped c)
+  at-frame fits answer.Accepted e true test =
       let above : p .receiver .due < slotIn (frameAt recording p) = ltb-true (p .receiver .due) (slotIn (frameAt recording p)) test in
       rw (act-loss recording p fits rows message e above) (lost e above)
-  at-frame fits nothing e false test =
+  at-frame fits answer.Accepted e false test =
       let reached : slotIn (frameAt recording p) ≤ p .receiver .due = ltb-false (p .receiver .due) (slotIn (frameAt recording p)) test in
       rw (act-heard recording p fits rows message e reached) (heard fits)
 

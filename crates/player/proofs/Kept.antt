@@ -10,7 +10,9 @@ use Rattle.protocol.specs.declared.Reply.{Reply}
 use Rattle.protocol.specs.declared.Reply.the-variants.{Refused, NoneYet, Whole, Lost, Clash}
 use Rattle.protocol.specs.Lengths.{messageLen, rowLen}
 use Rattle.protocol.specs.Verdict.{sharedBytes, bufferOf}
-use Rattle.protocol.specs.Causes.{Found, nothing, cause, lossCause, frameCause}
+use Rattle.protocol.specs.declared.Answer.{Answer}
+use Rattle.protocol.specs.declared.Answer.the-variants as answer
+use Rattle.protocol.specs.Causes.{lossCause, frameCause}
 use Rattle.protocol.specs.Calls.{movedOn, lossOf, heardOf}
 use Rattle.protocol.proofs.ReportCauses.{loss-open, frame-open}
 use Rattle.protocol.proofs.ReportSteps.{loss-moves, loss-stays, heard-moves, heard-stays}
@@ -36,21 +38,21 @@ module _ (x : Receiver) (rows message : List ℕ) where
   loss-length : length (lossOf x rows message .message) ≡ length message
   loss-length = go (lossCause x rows message) refl
     where
-      go : (f : Found) → lossCause x rows message ≡ f → length (lossOf x rows message .message) ≡ length message
-      go nothing is =
+      go : (f : Answer) → lossCause x rows message ≡ f → length (lossOf x rows message .message) ≡ length message
+      go answer.Accepted is =
           rw (loss-moves x rows message is)
           (moved-length x (replicate (rowLen (x .settings)) 0) rows ∙ sym (loss-open x rows message is .message-exact))
-      go (cause c) is = rw (loss-stays x rows message c is)
+      go (answer.Refused c) is = rw (loss-stays x rows message c is)
 
   -- a frame
   heard-length : (frame : List ℕ) → length (heardOf x rows frame message .message) ≡ length message
   heard-length frame = go (frameCause x rows frame message) refl
     where
-      go : (f : Found) → frameCause x rows frame message ≡ f → length (heardOf x rows frame message .message) ≡ length message
-      go nothing is =
+      go : (f : Answer) → frameCause x rows frame message ≡ f → length (heardOf x rows frame message .message) ≡ length message
+      go answer.Accepted is =
           rw (heard-moves x rows frame message is)
           (moved-length x (1 ∷ drop 14 frame) rows ∙ sym (frame-open x rows message frame is .message-exact))
-      go (cause c) is = rw (heard-stays x rows frame message c is)
+      go (answer.Refused c) is = rw (heard-stays x rows frame message c is)
 
 -- any step
 pub act-length : (p : Player) (recording rows message : List ℕ) → length (actOf p recording rows message .message) ≡ length message

@@ -11,7 +11,8 @@ use Rattle.code.specs.declared.settings.Settings.{Settings}
 use Rattle.code.specs.Settings.{accepted}
 use Rattle.code.proofs.Shape.{shape}
 use Rattle.protocol.specs.Lengths.{messageLen, bodyLen, rowLen, rowCount, receiverLen}
-use Rattle.protocol.specs.Causes.{Found, nothing, cause}
+use Rattle.protocol.specs.declared.Answer.{Answer}
+use Rattle.protocol.specs.declared.Answer.the-variants as answer
 use Rattle.lines.specs.Lent.{longest}
 use Rattle.player.specs.declared.Player.{Player}
 use Rattle.player.specs.declared.Start.{Start}
@@ -52,14 +53,14 @@ pub play-accepted : (recording : List ℕ) (s : Settings) → startOf recording 
 unfolding startOf settingsOf
 play-accepted recording s e = go (eqb (length recording) 0) refl (recordingCause recording) refl
   where
-    go : (b : Bool) → eqb (length recording) 0 ≡ b → (f : Found) → recordingCause recording ≡ f → T (accepted s)
+    go : (b : Bool) → eqb (length recording) 0 ≡ b → (f : Answer) → recordingCause recording ≡ f → T (accepted s)
     go true none f found =
         let no : Empty ≡ Play s = rw (none, startOf) at e in
         let z : _≡_ {A = ℕ} 0 1 = cc in absurd (omega arith)
-    go false some (cause c) found =
+    go false some (answer.Refused c) found =
         let no : Stop c ≡ Play s = rw (some, found, startOf) at e in
         let z : _≡_ {A = ℕ} 0 1 = cc in absurd (omega arith)
-    go false some nothing found =
+    go false some answer.Accepted found =
         let own : Play (settingsIn recording) ≡ Play s = rw (some, found, startOf) at e in
         subst (λ (t : Settings). T (accepted t)) (ap (settingsOf s) own) (passed recording found .0)
 

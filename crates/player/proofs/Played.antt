@@ -8,7 +8,8 @@ use lib.ListN.{length, drop, length-replicate}
 use lib.Seq.{take-at}
 use borrow.Author.Tests.{ltb-true, ltb-false}
 use Rattle.code.specs.declared.settings.Settings.{Settings}
-use Rattle.protocol.specs.Causes.{Found, nothing, cause}
+use Rattle.protocol.specs.declared.Answer.{Answer}
+use Rattle.protocol.specs.declared.Answer.the-variants as answer
 use Rattle.lines.specs.Text.{written}
 use Rattle.lines.specs.Lent.{longest}
 use Rattle.player.specs.declared.Player.{Player}
@@ -90,12 +91,12 @@ module _ (recording : List ℕ) (buffer : ℕ → List ℕ) where
 
 module _ (recording rows message : List ℕ) (buffer : ℕ → List ℕ) (fit : Fitting recording rows message buffer) where
   -- a recording, by its tests before any line
-  printed-by : (b : Bool) → eqb (length recording) 0 ≡ b → (f : Found) → recordingCause recording ≡ f
+  printed-by : (b : Bool) → eqb (length recording) 0 ≡ b → (f : Answer) → recordingCause recording ≡ f
       → Printed recording rows message buffer (transcript recording)
   unfolding startOf transcript Fitting beginOf longest
   printed-by true none f found = rw (none, transcript) (Printed.nothing (rw (none, startOf)))
-  printed-by false some (cause c) found = rw (some, found, transcript) (Printed.refused c (rw (some, found, startOf)))
-  printed-by false some nothing found =
+  printed-by false some (answer.Refused c) found = rw (some, found, transcript) (Printed.refused c (rw (some, found, startOf)))
+  printed-by false some answer.Accepted found =
       let s : Settings = settingsIn recording in
       let starts : startOf recording ≡ Play s = rw (some, found, startOf) in
       let pass = passed recording found in

@@ -11,7 +11,7 @@ use Rattle.code.specs.Settings.{accepted}
 use Rattle.protocol.specs.declared.Cause.{Cause}
 use Rattle.protocol.specs.declared.Cause.the-variants.{BadSettings, BadLength}
 use Rattle.protocol.specs.Lengths.{frameLen}
-use Rattle.protocol.specs.Causes.{cause, nothing}
+use Rattle.protocol.specs.declared.Answer.the-variants as answer
 use Rattle.protocol.proofs.CauseTables.{fails}
 use Rattle.player.specs.declared.Start.the-variants.{Empty, Stop, Play}
 use Rattle.player.specs.Transcript.{settingsIn, recordingCause}
@@ -23,7 +23,7 @@ module _ (recording : List ℕ) where
   starts-empty e = rw (eq-eqb (length recording) 0 e, startOf)
 
   module _ (some : length recording ≢ 0) where
-    stops : (c : Cause) → recordingCause recording ≡ cause c → Stop c ≡ startOf recording
+    stops : (c : Cause) → recordingCause recording ≡ answer.Refused c → Stop c ≡ startOf recording
     unfolding startOf
     stops c e = rw (ne-eqb (length recording) 0 some, e, startOf)
 
@@ -55,7 +55,7 @@ module _ (recording : List ℕ) where
               ))
 
           -- a whole number of frames
-          whole : length recording % frameLen (settingsIn recording) ≡ 0 → recordingCause recording ≡ nothing
+          whole : length recording % frameLen (settingsIn recording) ≡ 0 → recordingCause recording ≡ answer.Accepted
           unfolding recordingCause
           whole e =
               rw (

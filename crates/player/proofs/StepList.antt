@@ -16,9 +16,10 @@ use Rattle.protocol.specs.declared.Cause.the-variants.{BadSettings, BadLength}
 use Rattle.protocol.specs.declared.Answer.the-variants as answer
 use Rattle.protocol.specs.Lengths.{messageLen, frameLen, rowCount, receiverLen}
 use Rattle.protocol.specs.Rows.{joined}
-use Rattle.protocol.specs.Causes.{Found, nothing, cause, check}
+use Rattle.protocol.specs.declared.Answer.{Answer}
+use Rattle.protocol.specs.Causes.{check}
 use Rattle.protocol.specs.Calls.{OpenedReceiver, openReceiverOf, receivedZeros, Reported, lossOf, heardOf}
-use Rattle.protocol.proofs.CauseTables.{check-nothing, passes, open-nothing}
+use Rattle.protocol.proofs.CauseTables.{check-clear, passes, open-clear}
 use Rattle.player.specs.declared.Player.{Player}
 use Rattle.player.specs.Transcript.{
   settingsIn,
@@ -78,7 +79,7 @@ module _ (recording : List ℕ) (s : Settings) (offset : ℕ) (fits : offset + f
   module _ (after : (slot : ℕ) (rows message : List ℕ)
       → Steps recording (playerAt (due s slot) (offset + frameLen s)) rows message (played frames (due s slot) rows message)) where
     -- the report of a frame at the slot due, and what comes after it
-    heard-steps : (slot : ℕ) (rows message : List ℕ) → frameStop (due s slot) here ≡ nothing → slotIn here ≤ slot
+    heard-steps : (slot : ℕ) (rows message : List ℕ) → frameStop (due s slot) here ≡ answer.Accepted → slotIn here ≤ slot
         → Steps recording (playerAt (due s slot) offset) rows message (finish (due s slot) rows message)
     heard-steps slot rows message e reached =
         let r : Reported = heardOf (due s slot) rows here message in
@@ -87,14 +88,14 @@ module _ (recording : List ℕ) (s : Settings) (offset : ℕ) (fits : offset + f
         (λ free. rw (heard-onward (due s slot) rows here message free) (after (slot + 1) (r .rows) (r .message)))
 
     -- the skipped slots, then the frame
-    skip-steps : (m slot : ℕ) (rows message : List ℕ) → frameStop (due s slot) here ≡ nothing → slotIn here - slot ≡ m
+    skip-steps : (m slot : ℕ) (rows message : List ℕ) → frameStop (due s slot) here ≡ answer.Accepted → slotIn here - slot ≡ m
         → Steps recording (playerAt (due s slot) offset) rows message (skipped m finish (due s slot) rows message)
     unfolding skipped
     skip-steps zero slot rows message e left = heard-steps slot rows message e (omega arith)
     skip-steps (suc m) slot rows message e left =
         let above : slot < slotIn here = omega arith in
         let r : Reported = lossOf (due s slot) rows message in
-        let onto : frameStop (due s (slot + 1)) here ≡ nothing =
+        let onto : frameStop (due s (slot + 1)) here ≡ answer.Accepted =
         passing-stop (due s (slot + 1)) here (passing-onward (due s slot) here e above) in
         report-by recording (playerAt (due s slot) offset) rows message offset r (skipped m finish)
         (act-loss recording (playerAt (due s slot) offset) fits rows message e above)
@@ -107,10 +108,10 @@ module _ (recording : List ℕ) (s : Settings) (offset : ℕ) (fits : offset + f
     unfolding played stopAct
     frame-steps slot rows message = go (frameStop (due s slot) here) refl
       where
-        go : (f : Found) → frameStop (due s slot) here ≡ f
+        go : (f : Answer) → frameStop (due s slot) here ≡ f
             → Steps recording (playerAt (due s slot) offset) rows message (played (here ∷ frames) (due s slot) rows message)
-        go nothing e = rw (e, played) (skip-steps (slotIn here - slot) slot rows message e refl)
-        go (cause c) e =
+        go answer.Accepted e = rw (e, played) (skip-steps (slotIn here - slot) slot rows message e refl)
+        go (answer.Refused c) e =
             rw (e, played)
             (Steps.last (playerAt (due s slot) offset) rows message (stopAct (playerAt (due s slot) offset) rows message c)
             (act-stop recording (playerAt (due s slot) offset) fits rows message c e) refl)
@@ -140,20 +141,20 @@ openedFor s =
 -- accepted settings and rows of the exact length open it
 opens : (s : Settings) (rows : List ℕ) → T (accepted s) → length rows ≡ receiverLen s → openReceiverOf s rows ≡ openedFor s
 unfolding openReceiverOf
-opens s rows ok exact = rw (open-nothing s (receiverLen s) rows ok exact, openReceiverOf)
+opens s rows ok exact = rw (open-clear s (receiverLen s) rows ok exact, openReceiverOf)
 
 -- a recording that passes has accepted settings, and is whole frames
-pub passed : (recording : List ℕ) → recordingCause recording ≡ nothing
+pub passed : (recording : List ℕ) → recordingCause recording ≡ answer.Accepted
     → T (accepted (settingsIn recording)) × (length recording % frameLen (settingsIn recording) ≡ 0)
 unfolding recordingCause
 passed recording e =
     let s : Settings = settingsIn recording in
-    let whole : Found = check (not (eqb (length recording % frameLen s) 0)) BadLength nothing in
+    let whole : Answer = check (not (eqb (length recording % frameLen s) 0)) BadLength answer.Accepted in
     let a =
-    check-nothing (ltb (length recording) 14 || ltb 65536 (length recording)) BadLength
+    check-clear (ltb (length recording) 14 || ltb 65536 (length recording)) BadLength
     (check (not (accepted s)) BadSettings whole) e in
-    let b = check-nothing (not (accepted s)) BadSettings whole (a .1) in
-    let c = check-nothing (not (eqb (length recording % frameLen s) 0)) BadLength nothing (b .1) in
+    let b = check-clear (not (accepted s)) BadSettings whole (a .1) in
+    let c = check-clear (not (eqb (length recording % frameLen s) 0)) BadLength answer.Accepted (b .1) in
     (passes (accepted s) (b .0), eqb-true (length recording % frameLen s) 0 (not-false (eqb (length recording % frameLen s) 0) (c .0)))
 
 -- a recording that passes, from its start: the steps print what it prints, and end

@@ -1,62 +1,44 @@
 -- What each way out of a step gives back, by the tests before it.
-use mathlib.Core.Path.{_≡_, refl, ap}
+use mathlib.Core.Path.{_≡_, refl}
 use mathlib.Core.Bool.{Bool, true}
 use mathlib.Core.List.{List}
-use native.Mathlib.Omega.{arith}
 use Prim.Native.Nat.{ℕ, _-_, _≤_, _<_}
 use lib.ListN.{length, take, drop}
 use borrow.Author.Tests.{lt-ltb, le-ltb}
 use Rattle.protocol.specs.declared.Receiver.{Receiver}
 use Rattle.protocol.specs.declared.Cause.{Cause}
-use Rattle.protocol.specs.declared.Cause.the-variants.{BadSettings, BadLength}
-use Rattle.protocol.specs.declared.Answer.{Answer}
-use Rattle.protocol.specs.declared.Answer.the-variants.{Accepted, Refused}
+use Rattle.protocol.specs.declared.Cause.the-variants.{BadLength}
 use Rattle.protocol.specs.Lengths.{frameLen}
-use Rattle.protocol.specs.Causes.{Found, nothing, cause}
+use Rattle.protocol.specs.declared.Answer.the-variants as answer
 use Rattle.protocol.specs.Calls.{Reported, messageDue, lossOf, heardOf}
 use Rattle.recording.specs.declared.Found.the-variants.{Frame, Part, End}
 use Rattle.recording.specs.Found.{foundAt}
 use Rattle.lines.specs.Text.{stopLine, lineOf, written}
 use Rattle.player.specs.declared.Player.{Player}
 use Rattle.player.specs.Transcript.{slotIn, frameStop, refuses}
-use Rattle.player.specs.Steps.{answerOf, Act, endAct, stopAct, reportAct, frameAct, actOf}
+use Rattle.player.specs.Steps.{Act, endAct, stopAct, reportAct, frameAct, actOf}
 use Rattle.player.specs.Filling.{printedOn}
-
--- ---- an answer tells what a table found
-
-causeIn : Answer → Cause
-causeIn Accepted = BadSettings
-causeIn (Refused c) = c
-
-refused-cause : (f : Found) (c : Cause) → answerOf f ≡ Refused c → f ≡ cause c
-unfolding causeIn
-refused-cause nothing c e = let z : _≡_ {A = ℕ} 0 1 = cc in absurd (omega arith)
-refused-cause (cause d) c e = ap (λ (a : Answer). cause (causeIn a)) e
-
-accepted-nothing : (f : Found) → answerOf f ≡ Accepted → f ≡ nothing
-accepted-nothing nothing e = refl
-accepted-nothing (cause d) e = let z : _≡_ {A = ℕ} 0 1 = cc in absurd (omega arith)
 
 -- ---- at a frame
 
 module _ (p : Player) (frame : List ℕ) (end : ℕ) (rows message : List ℕ) where
-  pub frame-stops : (c : Cause) → answerOf (frameStop (p .receiver) frame) ≡ Refused c
+  pub frame-stops : (c : Cause) → frameStop (p .receiver) frame ≡ answer.Refused c
       → stopAct p rows message c ≡ frameAct p frame end rows message
   unfolding frameAct
-  frame-stops c e = rw (refused-cause (frameStop (p .receiver) frame) c e, frameAct)
+  frame-stops c e = rw (e, frameAct)
 
-  module _ (passed : answerOf (frameStop (p .receiver) frame) ≡ Accepted) where
+  module _ (passed : frameStop (p .receiver) frame ≡ answer.Accepted) where
     pub frame-skips : p .receiver .due < slotIn frame
         → reportAct (p .receiver) (p .offset) (lossOf (p .receiver) rows message) ≡ frameAct p frame end rows message
     unfolding frameAct
     frame-skips h =
-        rw (accepted-nothing (frameStop (p .receiver) frame) passed, lt-ltb (p .receiver .due) (slotIn frame) h, frameAct)
+        rw (passed, lt-ltb (p .receiver .due) (slotIn frame) h, frameAct)
 
     pub frame-hears : slotIn frame ≤ p .receiver .due
         → reportAct (p .receiver) end (heardOf (p .receiver) rows frame message) ≡ frameAct p frame end rows message
     unfolding frameAct
     frame-hears h =
-        rw (accepted-nothing (frameStop (p .receiver) frame) passed, le-ltb (p .receiver .due) (slotIn frame) h, frameAct)
+        rw (passed, le-ltb (p .receiver .due) (slotIn frame) h, frameAct)
 
 -- ---- on a line
 

@@ -7,7 +7,7 @@ use native.Mathlib.Omega.{arith}
 use lib.ListN.{length}
 use Rattle.protocol.specs.declared.Cause.{Cause}
 use Rattle.protocol.specs.Lengths.{frameLen}
-use Rattle.protocol.specs.Causes.{nothing}
+use Rattle.protocol.specs.declared.Answer.the-variants as answer
 use Rattle.protocol.specs.Calls.{Reported, lossOf, heardOf}
 use Rattle.player.specs.declared.Player.{Player}
 use Rattle.player.specs.Transcript.{slotIn, frameStop}
@@ -42,7 +42,7 @@ module _ (p : Player) (recording : List ℕ) where
   stop-falls rows message c more = let z : _≡_ {A = ℕ} 0 1 = cc in absurd (omega arith)
 
   -- after a loss the frame is the same, and one slot fewer is to skip
-  loss-falls : (rows message : List ℕ) → frameStop (p .receiver) (frameAt recording p) ≡ nothing
+  loss-falls : (rows message : List ℕ) → frameStop (p .receiver) (frameAt recording p) ≡ answer.Accepted
       → p .receiver .due < slotIn (frameAt recording p)
       → Falls (reportAct (p .receiver) (p .offset) (lossOf (p .receiver) rows message))
   unfolding reportAct stepsLeft

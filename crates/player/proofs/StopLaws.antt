@@ -11,28 +11,27 @@ use Rattle.protocol.specs.declared.Cause.the-variants.{OtherMark, OtherSettings
 use Rattle.protocol.specs.Frame.{mark, five}
 use Rattle.protocol.specs.Causes.{agree}
 use Rattle.player.specs.Transcript.{slotIn, frameStop}
-use Rattle.player.specs.Steps.{answerOf}
 
 module _ (x : Receiver) (frame : List ℕ) where
-  pub stop-mark : agree 5 frame (mark 1) ≡ false → Refused OtherMark ≡ answerOf (frameStop x frame)
+  pub stop-mark : agree 5 frame (mark 1) ≡ false → Refused OtherMark ≡ frameStop x frame
   unfolding frameStop
   stop-mark e = rw e
 
   module _ (marked : agree 5 frame (mark 1) ≡ true) where
-    pub stop-five : agree 5 (drop 5 frame) (five (x .settings)) ≡ false → Refused OtherSettings ≡ answerOf (frameStop x frame)
+    pub stop-five : agree 5 (drop 5 frame) (five (x .settings)) ≡ false → Refused OtherSettings ≡ frameStop x frame
     unfolding frameStop
     stop-five e = rw (marked, e)
 
     module _ (own : agree 5 (drop 5 frame) (five (x .settings)) ≡ true) where
-      pub stop-below : slotIn frame < x .due → Refused OtherSlot ≡ answerOf (frameStop x frame)
+      pub stop-below : slotIn frame < x .due → Refused OtherSlot ≡ frameStop x frame
       unfolding frameStop
       stop-below h = rw (marked, own, lt-ltb (slotIn frame) (x .due) h)
 
       module _ (onward : x .due ≤ slotIn frame) where
-        pub stop-above : x .due + 4095 < slotIn frame → Refused OtherSlot ≡ answerOf (frameStop x frame)
+        pub stop-above : x .due + 4095 < slotIn frame → Refused OtherSlot ≡ frameStop x frame
         unfolding frameStop
         stop-above h = rw (marked, own, le-ltb (slotIn frame) (x .due) onward, lt-ltb (x .due + 4095) (slotIn frame) h)
 
-        pub passes : slotIn frame ≤ x .due + 4095 → Accepted ≡ answerOf (frameStop x frame)
+        pub passes : slotIn frame ≤ x .due + 4095 → Accepted ≡ frameStop x frame
         unfolding frameStop
         passes h = rw (marked, own, le-ltb (slotIn frame) (x .due) onward, le-ltb (x .due + 4095) (slotIn frame) h)

@@ -9,9 +9,7 @@ use Rattle.protocol.specs.declared.Receiver.{Receiver}
 use Rattle.protocol.specs.declared.Cause.{Cause}
 use Rattle.protocol.specs.declared.Cause.the-variants.{BadLength}
 use Rattle.protocol.specs.Lengths.{frameLen}
-use Rattle.protocol.specs.declared.Answer.{Answer}
-use Rattle.protocol.specs.declared.Answer.the-variants.{Accepted, Refused}
-use Rattle.protocol.specs.Causes.{Found, nothing, cause}
+use Rattle.protocol.specs.declared.Answer.the-variants as answer
 use Rattle.protocol.specs.Calls.{openReceiverOf, Reported, messageDue, lossOf, heardOf}
 use Rattle.recording.specs.declared.Found.the-variants.{Frame, Part, End}
 use Rattle.recording.specs.Found.{foundAt}
@@ -21,11 +19,6 @@ use Rattle.player.specs.declared.Start.{Start}
 use Rattle.player.specs.declared.Start.the-variants.{Empty, Stop, Play}
 use Rattle.player.specs.Transcript.{settingsIn, recordingCause, slotIn, frameStop, refuses}
 
--- the first cause that holds, as an answer
-abbrev pub answerOf : Found → Answer
-answerOf nothing = Accepted
-answerOf (cause c) = Refused c
-
 -- ---- the start
 
 -- how a recording starts: the tests before any line
@@ -34,8 +27,8 @@ startOf recording =
     elim (eqb (length recording) 0) [
       | true ↦ Empty
       | false ↦ elim (recordingCause recording) [
-        | cause c ↦ Stop c
-        | nothing ↦ Play (settingsIn recording)
+        | answer.Refused c ↦ Stop c
+        | answer.Accepted ↦ Play (settingsIn recording)
       ]
     ]
 
@@ -87,8 +80,8 @@ unfoldable pub frameAct : Player → List ℕ → ℕ → List ℕ → List ℕ 
 frameAct p frame end rows message =
     let x : Receiver = p .receiver in
     elim (frameStop x frame) [
-      | cause c ↦ stopAct p rows message c
-      | nothing ↦ elim (ltb (x .due) (slotIn frame)) [
+      | answer.Refused c ↦ stopAct p rows message c
+      | answer.Accepted ↦ elim (ltb (x .due) (slotIn frame)) [
         | true ↦ reportAct x (p .offset) (lossOf x rows message)
         | false ↦ reportAct x end (heardOf x rows frame message)
       ]

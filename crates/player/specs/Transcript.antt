@@ -11,7 +11,9 @@ use Rattle.protocol.specs.declared.Reply.{Reply}
 use Rattle.protocol.specs.declared.Cause.the-variants.{BadSettings, BadLength, OtherMark, OtherSettings, OtherSlot}
 use Rattle.protocol.specs.Lengths.{messageLen, frameLen, receiverLen}
 use Rattle.protocol.specs.Frame.{mark, five}
-use Rattle.protocol.specs.Causes.{Found, nothing, cause, check, agree}
+use Rattle.protocol.specs.declared.Answer.{Answer}
+use Rattle.protocol.specs.declared.Answer.the-variants as answer
+use Rattle.protocol.specs.Causes.{check, agree}
 use Rattle.protocol.specs.Claim.{accepts}
 use Rattle.protocol.specs.Calls.{OpenedReceiver, openReceiverOf, Reported, messageDue, lossOf, heardOf}
 use Rattle.lines.specs.Text.{stopLine, lineOf}
@@ -30,13 +32,13 @@ settingsIn recording =
     }
 
 -- shorter than 14 bytes or longer than 64 KiB is 2; then settings that aren't accepted are 1; then no whole number of frames is 2
-unfoldable pub recordingCause : List ℕ → Found
+unfoldable pub recordingCause : List ℕ → Answer
 recordingCause recording =
     let s : Settings = settingsIn recording in
     check (ltb (length recording) 14 || ltb 65536 (length recording)) BadLength
     (check (not (accepted s)) BadSettings
     (check (not (eqb (length recording % frameLen s) 0)) BadLength
-    nothing))
+    answer.Accepted))
 
 -- ---- the frames
 
@@ -45,12 +47,12 @@ unfoldable pub slotIn : List ℕ → ℕ
 slotIn frame = ((getD frame 10 0 * 256 + getD frame 11 0) * 256 + getD frame 12 0) * 256 + getD frame 13 0
 
 -- a frame meets 4 and 5 in the table's order; its slot is 6 if it is below the slot due or more than 4,095 above it
-unfoldable pub frameStop : Receiver → List ℕ → Found
+unfoldable pub frameStop : Receiver → List ℕ → Answer
 frameStop x frame =
     check (not (agree 5 frame (mark 1))) OtherMark
     (check (not (agree 5 (drop 5 frame) (five (x .settings)))) OtherSettings
     (check (ltb (slotIn frame) (x .due) || ltb (x .due + 4095) (slotIn frame)) OtherSlot
-    nothing))
+    answer.Accepted))
 
 -- frames of one length, back to back
 unfoldable pub pieces : ℕ → ℕ → List ℕ → List (List ℕ)
@@ -83,8 +85,8 @@ unfoldable pub played : List (List ℕ) → Rest
 played [] x rows message = []
 played (frame ∷ frames) x rows message =
     elim (frameStop x frame) [
-      | cause c ↦ stopLine c
-      | nothing ↦ skipped (slotIn frame - x .due) (λ y rows' message'. andThen y (heardOf y rows' frame message') (played frames)) x rows message
+      | answer.Refused c ↦ stopLine c
+      | answer.Accepted ↦ skipped (slotIn frame - x .due) (λ y rows' message'. andThen y (heardOf y rows' frame message') (played frames)) x rows message
     ]
 
 -- a recording that passes, played by a receiver that is opened for it
@@ -99,7 +101,7 @@ transcript recording =
     elim (eqb (length recording) 0) [
       | true ↦ []
       | false ↦ elim (recordingCause recording) [
-        | cause c ↦ stopLine c
-        | nothing ↦ playedFrom (settingsIn recording) recording
+        | answer.Refused c ↦ stopLine c
+        | answer.Accepted ↦ playedFrom (settingsIn recording) recording
       ]
     ]

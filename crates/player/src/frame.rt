@@ -8,7 +8,6 @@ ghost use mathlib.Core.Path.{_≡_};
 ghost use Prim.Native.Nat.{_+_, _*_, _≤_};
 ghost use lib.ListN.{length};
 ghost use Rattle.player.specs.Transcript.{slotIn, frameStop};
-ghost use Rattle.player.specs.Steps.{answerOf};
 
 // How many slots a frame may skip.
 const LONGEST_GAP: u32 = 4095;
@@ -31,7 +30,7 @@ pub(crate) fn slot_of(frame: &[u8]) -> u32
 // The cause for which a frame stops the player, if there is one.
 pub(crate) fn stop_of(x: Receiver, frame: &[u8]) -> Answer
     requires { ⌜ 14 ≤ length (now frame) ⌝ }
-    ensures { λ r. ⌜ r ≡ answerOf (frameStop x (now (frame .entry))) ⌝ }
+    ensures { λ r. ⌜ r ≡ frameStop x (now (frame .entry)) ⌝ }
 {
     let s = x.settings;
     let head = header_bytes(s, x.due);

@@ -27,7 +27,9 @@ use Rattle.protocol.specs.States.{reportedOn}
 use Rattle.protocol.specs.Rows.{putRow}
 use Rattle.protocol.specs.Verdict.{arrived, symbolSaid, isClash, isLost, wholeByte, someCodeword, noneFits, twoDiffer}
 use Rattle.protocol.specs.Verdict.{verdict, sharedBytes, bufferOf}
-use Rattle.protocol.specs.Causes.{Found, nothing, cause, lossCause, frameCause}
+use Rattle.protocol.specs.declared.Answer.{Answer}
+use Rattle.protocol.specs.declared.Answer.the-variants as answer
+use Rattle.protocol.specs.Causes.{lossCause, frameCause}
 use Rattle.protocol.specs.Calls.{Reported, messageDue, movedOn, lossOf, heardOf}
 use Rattle.protocol.specs.TwoLists.{Report, heard, missed, reportOf, ReportMade, reports}
 use Rattle.protocol.proofs.ReportSteps.{refusal}
@@ -76,13 +78,13 @@ quickMoved x row rows =
 unfoldable pub quickReport : Receiver → List ℕ → Report → Reported
 quickReport x rows (heard frame message) =
     elim (frameCause x rows frame message) [
-      | nothing ↦ quickMoved x (1 ∷ drop 14 frame) rows
-      | cause c ↦ refusal c x rows message
+      | answer.Accepted ↦ quickMoved x (1 ∷ drop 14 frame) rows
+      | answer.Refused c ↦ refusal c x rows message
     ]
 quickReport x rows (missed message) =
     elim (lossCause x rows message) [
-      | nothing ↦ quickMoved x (replicate (rowLen (x .settings)) 0) rows
-      | cause c ↦ refusal c x rows message
+      | answer.Accepted ↦ quickMoved x (replicate (rowLen (x .settings)) 0) rows
+      | answer.Refused c ↦ refusal c x rows message
     ]
 
 -- the reports of a list of calls
@@ -247,23 +249,23 @@ Kept r = T (accepted (r .receiver .settings)) × T (small (r .rows))
 
 module _ (x : Receiver) (ok : T (accepted (x .settings))) (rows : List ℕ) (hs : T (small rows)) where
   -- where no cause is found a report moves on, else it is refused
-  abbrev slow : Found → List ℕ → List ℕ → Reported
-  slow found row message = elim found [ nothing ↦ movedOn x row rows | cause c ↦ refusal c x rows message ]
+  abbrev slow : Answer → List ℕ → List ℕ → Reported
+  slow found row message = elim found [ answer.Accepted ↦ movedOn x row rows | answer.Refused c ↦ refusal c x rows message ]
 
   -- the same by quickMoved
-  abbrev quick : Found → List ℕ → List ℕ → Reported
-  quick found row message = elim found [ nothing ↦ quickMoved x row rows | cause c ↦ refusal c x rows message ]
+  abbrev quick : Answer → List ℕ → List ℕ → Reported
+  quick found row message = elim found [ answer.Accepted ↦ quickMoved x row rows | answer.Refused c ↦ refusal c x rows message ]
 
   -- both come to the same
-  slow-quick : (row message : List ℕ) → T (small row) → (found : Found) → slow found row message ≡ quick found row message
-  slow-quick row message h nothing = quick-moved x ok row rows h hs
-  slow-quick row message h (cause c) = refl
+  slow-quick : (row message : List ℕ) → T (small row) → (found : Answer) → slow found row message ≡ quick found row message
+  slow-quick row message h answer.Accepted = quick-moved x ok row rows h hs
+  slow-quick row message h (answer.Refused c) = refl
 
   -- the settings stay accepted, and the rows bytes
-  quick-kept : (row message : List ℕ) → T (small row) → (found : Found) → Kept (quick found row message)
+  quick-kept : (row message : List ℕ) → T (small row) → (found : Answer) → Kept (quick found row message)
   unfolding quickMoved
-  quick-kept row message h nothing = (ok, small-put (rowLen (x .settings)) (x .due % rowCount (x .settings)) row rows h hs)
-  quick-kept row message h (cause c) = (ok, hs)
+  quick-kept row message h answer.Accepted = (ok, small-put (rowLen (x .settings)) (x .due % rowCount (x .settings)) row rows h hs)
+  quick-kept row message h (answer.Refused c) = (ok, hs)
 
   -- a report comes to the same, and leaves what the next one needs
   pub quick-report : (c : Report) → T (smallFrames (c ∷ []))
@@ -271,12 +273,12 @@ module _ (x : Receiver) (ok : T (accepted (x .settings))) (rows : List ℕ) (hs 
   unfolding reportOf heardOf lossOf quickReport smallFrames small
   quick-report (heard frame message) h =
       let bytes : T (small (1 ∷ drop 14 frame)) = small-drop 14 frame (and-left (small frame) true h) in
-      let found : Found = frameCause x rows frame message in
+      let found : Answer = frameCause x rows frame message in
       (slow-quick (1 ∷ drop 14 frame) message bytes found, quick-kept (1 ∷ drop 14 frame) message bytes found)
   quick-report (missed message) h =
       let zeros : List ℕ = replicate (rowLen (x .settings)) 0 in
       let bytes : T (small zeros) = small-zeros (rowLen (x .settings)) in
-      let found : Found = lossCause x rows message in
+      let found : Answer = lossCause x rows message in
       (slow-quick zeros message bytes found, quick-kept zeros message bytes found)
 
 -- the first frame is a list of bytes, and so are the rest

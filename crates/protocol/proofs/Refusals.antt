@@ -15,7 +15,7 @@ use Rattle.protocol.specs.declared.Reply.{Reply}
 use Rattle.protocol.specs.declared.Reply.the-variants as reply
 use Rattle.protocol.specs.Lengths.{senderLen, receiverLen}
 use Rattle.protocol.specs.States.{noSender, noReceiver}
-use Rattle.protocol.specs.Causes.{numberOf, Found, nothing, cause, check, Row, firstOf}
+use Rattle.protocol.specs.Causes.{numberOf, check, Row, firstOf}
 use Rattle.protocol.specs.Causes.{openTable, sendTable, lossTable, frameTable, openCause, sendCause, lossCause, frameCause}
 use Rattle.protocol.specs.Calls.{OpenedSender, openSenderOf, Sent, sendOf, OpenedReceiver, openReceiverOf}
 use Rattle.protocol.specs.Calls.{Reported, movedOn, lossOf, heardOf}
@@ -27,62 +27,45 @@ use Rattle.protocol.proofs.ReportRows.{moved-accepts}
 
 -- ---- a table read from the top finds c exactly if c is the first that holds
 
-abbrev causeOr : Found → Cause → Cause
-causeOr nothing d = d
-causeOr (cause c) d = c
+abbrev causeOr : Answer → Cause → Cause
+causeOr answer.Accepted d = d
+causeOr (answer.Refused c) d = c
 
-abbrev isCause : Found → Bool
-isCause nothing = false
-isCause (cause c) = true
+abbrev isCause : Answer → Bool
+isCause answer.Accepted = false
+isCause (answer.Refused c) = true
 
-pub found-first : (c : Cause) (rs : List Row) → firstOf rs ≡ cause c → First c rs
-found-first c [] e = absurd (subst⁻¹ (λ (f : Found). T (isCause f)) e tt)
+pub found-first : (c : Cause) (rs : List Row) → firstOf rs ≡ answer.Refused c → First c rs
+found-first c [] e = absurd (subst⁻¹ (λ (f : Answer). T (isCause f)) e tt)
 found-first c (r ∷ rs) e = go (found-first c rs) (r .holds) refl e
   where
-    go : (firstOf rs ≡ cause c → First c rs) → (b : Bool) → r .holds ≡ b → check b (r .why) (firstOf rs) ≡ cause c → First c (r ∷ rs)
-    go rest true h e = here (subst⁻¹ T h tt) (ap (λ (f : Found). causeOr f c) e)
+    go : (firstOf rs ≡ answer.Refused c → First c rs) → (b : Bool) → r .holds ≡ b → check b (r .why) (firstOf rs) ≡ answer.Refused c → First c (r ∷ rs)
+    go rest true h e = here (subst⁻¹ T h tt) (ap (λ (f : Answer). causeOr f c) e)
     go rest false h e = later (λ t. subst T h t) (rest e)
 
-pub first-found : (c : Cause) (rs : List Row) → First c rs → firstOf rs ≡ cause c
+pub first-found : (c : Cause) (rs : List Row) → First c rs → firstOf rs ≡ answer.Refused c
 first-found c (r ∷ rs) (here h e) = go (r .holds) h
   where
-    go : (b : Bool) → T b → check b (r .why) (firstOf rs) ≡ cause c
-    go true h = ap cause e
+    go : (b : Bool) → T b → check b (r .why) (firstOf rs) ≡ answer.Refused c
+    go true h = ap answer.Refused e
     go false h = absurd h
 first-found c (r ∷ rs) (later n f) = go (r .holds) n (first-found c rs f)
   where
-    go : (b : Bool) → (T b → ⊥) → firstOf rs ≡ cause c → check b (r .why) (firstOf rs) ≡ cause c
+    go : (b : Bool) → (T b → ⊥) → firstOf rs ≡ answer.Refused c → check b (r .why) (firstOf rs) ≡ answer.Refused c
     go true n e = absurd (n tt)
     go false n e = e
 
--- ---- an answer by what was found
-
-abbrev answerBy : Found → Answer
-answerBy nothing = answer.Accepted
-answerBy (cause c) = answer.Refused c
-
-abbrev foundBy : Answer → Found
-foundBy answer.Accepted = nothing
-foundBy (answer.Refused c) = cause c
-
-found-answer : (f : Found) → foundBy (answerBy f) ≡ f
-found-answer nothing = refl
-found-answer (cause c) = refl
-
 -- refused for c exactly if c is the first cause of the table that holds
-refused-first : (c : Cause) (rs : List Row) (a : Answer) → a ≡ answerBy (firstOf rs) → (a ≡ answer.Refused c) ↔ First c rs
-refused-first c rs a by = (
-  λ e. found-first c rs (sym (found-answer (firstOf rs)) ∙ ap foundBy (sym by ∙ e)),
-  λ h. by ∙ ap answerBy (first-found c rs h),
-)
+refused-first : (c : Cause) (rs : List Row) (a : Answer) → a ≡ firstOf rs → (a ≡ answer.Refused c) ↔ First c rs
+refused-first c rs a by = (λ e. found-first c rs (sym by ∙ e), λ h. by ∙ first-found c rs h)
 
 -- ---- the openings
 
 module _ (s : Settings) (rows : List ℕ) where
-  opened-sender-by : (f : Found) → openCause s (senderLen s) rows ≡ f → openSenderOf s rows .answer ≡ answerBy f
+  opened-sender-by : (f : Answer) → openCause s (senderLen s) rows ≡ f → openSenderOf s rows .answer ≡ f
   unfolding openSenderOf
-  opened-sender-by nothing e = rw (e, openSenderOf)
-  opened-sender-by (cause c) e = rw (e, openSenderOf)
+  opened-sender-by answer.Accepted e = rw (e, openSenderOf)
+  opened-sender-by (answer.Refused c) e = rw (e, openSenderOf)
 
   pub open-sender-refused : (c : Cause) → (openSenderOf s rows .answer ≡ answer.Refused c) ↔ First c (openTable s (senderLen s) rows)
   unfolding openCause
@@ -96,10 +79,10 @@ module _ (s : Settings) (rows : List ℕ) where
   unfolding openSenderOf openCause
   open-sender-unchanged c h = rw (first-found c (openTable s (senderLen s) rows) h, openSenderOf)
 
-  opened-receiver-by : (f : Found) → openCause s (receiverLen s) rows ≡ f → openReceiverOf s rows .answer ≡ answerBy f
+  opened-receiver-by : (f : Answer) → openCause s (receiverLen s) rows ≡ f → openReceiverOf s rows .answer ≡ f
   unfolding openReceiverOf
-  opened-receiver-by nothing e = rw (e, openReceiverOf)
-  opened-receiver-by (cause c) e = rw (e, openReceiverOf)
+  opened-receiver-by answer.Accepted e = rw (e, openReceiverOf)
+  opened-receiver-by (answer.Refused c) e = rw (e, openReceiverOf)
 
   pub open-receiver-refused : (c : Cause) → (openReceiverOf s rows .answer ≡ answer.Refused c) ↔ First c (openTable s (receiverLen s) rows)
   unfolding openCause
@@ -115,10 +98,10 @@ module _ (s : Settings) (rows : List ℕ) where
 -- ---- send
 
 module _ (x : Sender) (rows message frame : List ℕ) where
-  sent-by : (f : Found) → sendCause x rows message frame ≡ f → sendOf x rows message frame .answer ≡ answerBy f
+  sent-by : (f : Answer) → sendCause x rows message frame ≡ f → sendOf x rows message frame .answer ≡ f
   unfolding sendOf
-  sent-by nothing e = rw (e, sendOf)
-  sent-by (cause c) e = rw (e, sendOf)
+  sent-by answer.Accepted e = rw (e, sendOf)
+  sent-by (answer.Refused c) e = rw (e, sendOf)
 
   pub send-refused : (c : Cause) → (sendOf x rows message frame .answer ≡ answer.Refused c) ↔ First c (sendTable x rows message frame)
   unfolding sendCause
@@ -134,33 +117,33 @@ module _ (x : Sender) (rows message frame : List ℕ) where
 
 -- ---- reports
 
-abbrev refusalOf : Reply → Found
-refusalOf (reply.Refused c) = cause c
-refusalOf reply.NoneYet = nothing
-refusalOf reply.Whole = nothing
-refusalOf reply.Lost = nothing
-refusalOf reply.Clash = nothing
+abbrev refusalOf : Reply → Answer
+refusalOf (reply.Refused c) = answer.Refused c
+refusalOf reply.NoneYet = answer.Accepted
+refusalOf reply.Whole = answer.Accepted
+refusalOf reply.Lost = answer.Accepted
+refusalOf reply.Clash = answer.Accepted
 
 -- an accepted report's reply is no refusal
-accepted-none : (r : Reply) → T (accepts r) → refusalOf r ≡ nothing
+accepted-none : (r : Reply) → T (accepts r) → refusalOf r ≡ answer.Accepted
 accepted-none (reply.Refused c) t = absurd t
 accepted-none reply.NoneYet t = refl
 accepted-none reply.Whole t = refl
 accepted-none reply.Lost t = refl
 accepted-none reply.Clash t = refl
 
-moved-none : (x : Receiver) (row rows : List ℕ) → refusalOf (movedOn x row rows .reply) ≡ nothing
+moved-none : (x : Receiver) (row rows : List ℕ) → refusalOf (movedOn x row rows .reply) ≡ answer.Accepted
 moved-none x row rows = accepted-none (movedOn x row rows .reply) (moved-accepts x row rows)
 
-reply-first : (c : Cause) (rs : List Row) (a : Reply) → refusalOf a ≡ firstOf rs → (firstOf rs ≡ cause c → a ≡ reply.Refused c)
+reply-first : (c : Cause) (rs : List Row) (a : Reply) → refusalOf a ≡ firstOf rs → (firstOf rs ≡ answer.Refused c → a ≡ reply.Refused c)
     → (a ≡ reply.Refused c) ↔ First c rs
 reply-first c rs a by back = ((λ e. found-first c rs (sym by ∙ ap refusalOf e)), λ h. back (first-found c rs h))
 
 module _ (x : Receiver) (rows message : List ℕ) where
-  loss-by : (f : Found) → lossCause x rows message ≡ f → refusalOf (lossOf x rows message .reply) ≡ f
+  loss-by : (f : Answer) → lossCause x rows message ≡ f → refusalOf (lossOf x rows message .reply) ≡ f
   unfolding lossOf
-  loss-by nothing e = rw (e, lossOf) (moved-none x _ rows)
-  loss-by (cause c) e = rw (e, lossOf)
+  loss-by answer.Accepted e = rw (e, lossOf) (moved-none x _ rows)
+  loss-by (answer.Refused c) e = rw (e, lossOf)
 
   -- a refused loss report leaves the state, the rows and the message as they were
   pub loss-unchanged : (c : Cause) → First c (lossTable x rows message)
@@ -175,10 +158,10 @@ module _ (x : Receiver) (rows message : List ℕ) where
       (λ e. ap (λ (r : Reported). r .reply) (loss-unchanged c (found-first c (lossTable x rows message) e)))
 
 module _ (x : Receiver) (rows frame message : List ℕ) where
-  heard-by : (f : Found) → frameCause x rows frame message ≡ f → refusalOf (heardOf x rows frame message .reply) ≡ f
+  heard-by : (f : Answer) → frameCause x rows frame message ≡ f → refusalOf (heardOf x rows frame message .reply) ≡ f
   unfolding heardOf
-  heard-by nothing e = rw (e, heardOf) (moved-none x _ rows)
-  heard-by (cause c) e = rw (e, heardOf)
+  heard-by answer.Accepted e = rw (e, heardOf) (moved-none x _ rows)
+  heard-by (answer.Refused c) e = rw (e, heardOf)
 
   -- a refused frame report leaves the state, the rows and the message as they were
   pub frame-unchanged : (c : Cause) → First c (frameTable x rows frame message)

@@ -13,7 +13,8 @@ use Rattle.protocol.specs.declared.Receiver.{Receiver}
 use Rattle.protocol.specs.declared.Cause.the-variants.{BadSettings, BadLength, PastLastSlot, OtherMark, OtherSettings, OtherSlot}
 use Rattle.protocol.specs.Lengths.{lastSlot, messageLen, bodyLen, frameLen, receiverLen}
 use Rattle.protocol.specs.Frame.{mark, five, slotBytes, header}
-use Rattle.protocol.specs.Causes.{nothing, agree, lossTable, frameTable, lossCause, frameCause}
+use Rattle.protocol.specs.declared.Answer.the-variants as answer
+use Rattle.protocol.specs.Causes.{agree, lossTable, frameTable, lossCause, frameCause}
 use Rattle.protocol.proofs.CauseTables.{none-holds, passes, fails}
 use Rattle.protocol.proofs.HeaderBytes.{tests-header, header-mark, header-five, header-slot}
 
@@ -34,7 +35,7 @@ module _ (x : Receiver) (rows message : List ℕ) where
     pub message-exact : length message ≡ messageLen (x .settings)
     pub in-time : x .due ≤ lastSlot
 
-  pub loss-open : lossCause x rows message ≡ nothing → LossOpen
+  pub loss-open : lossCause x rows message ≡ answer.Accepted → LossOpen
   unfolding lossCause
   loss-open e =
       let lengths : Bool = eqb (length rows) (receiverLen (x .settings)) && eqb (length message) (messageLen (x .settings)) in
@@ -47,9 +48,9 @@ module _ (x : Receiver) (rows message : List ℕ) where
         in-time = ltb-false lastSlot (x .due) (none PastLastSlot);
       }
 
-  pub loss-nothing : LossOpen → lossCause x rows message ≡ nothing
+  pub loss-clear : LossOpen → lossCause x rows message ≡ answer.Accepted
   unfolding lossCause
-  loss-nothing h =
+  loss-clear h =
       rw (
         fails (accepted (x .settings)) (h .settings),
         eq-eqb (length rows) (receiverLen (x .settings)) (h .rows-exact),
@@ -67,7 +68,7 @@ module _ (x : Receiver) (rows message : List ℕ) where
       pub in-time : x .due ≤ lastSlot
       pub headed : take 14 frame ≡ header 1 (x .settings) (x .due)
 
-    pub frame-open : frameCause x rows frame message ≡ nothing → FrameOpen
+    pub frame-open : frameCause x rows frame message ≡ answer.Accepted → FrameOpen
     unfolding frameCause frameLen
     frame-open e =
         let lengths : Bool
@@ -91,9 +92,9 @@ module _ (x : Receiver) (rows message : List ℕ) where
               (passes marked (none OtherMark)) (passes fived (none OtherSettings)) (passes slotted (none OtherSlot));
         }
 
-    pub frame-nothing : FrameOpen → frameCause x rows frame message ≡ nothing
+    pub frame-clear : FrameOpen → frameCause x rows frame message ≡ answer.Accepted
     unfolding frameCause
-    frame-nothing h =
+    frame-clear h =
         rw (
           fails (accepted (x .settings)) (h .settings),
           eq-eqb (length rows) (receiverLen (x .settings)) (h .rows-exact),

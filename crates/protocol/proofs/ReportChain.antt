@@ -18,7 +18,7 @@ use Rattle.protocol.specs.Rows.{putRow, joined}
 use Rattle.protocol.specs.Calls.{Reported, movedOn, receivedZeros, openReceiverOf}
 use Rattle.protocol.specs.TwoLists.{Report, reportOf, ReportMade, reports, rowOf}
 use Rattle.protocol.proofs.Rings.{length-putRow, length-joined}
-use Rattle.protocol.proofs.CauseTables.{open-nothing}
+use Rattle.protocol.proofs.CauseTables.{open-clear}
 use Rattle.protocol.proofs.ReportRows.{length-rowOf}
 use Rattle.protocol.proofs.ReportSteps.{made, Taken, Stayed, step}
 
@@ -104,7 +104,7 @@ module _ (s : Settings) (ok : T (accepted s)) where
       → openReceiverOf s rows
       ≡ record { answer = answer.Accepted; receiver = openedReceiver s; rows = joined (rowCount s) (λ r. receivedZeros s) }
   unfolding openReceiverOf
-  opened-receiver rows exact = rw (open-nothing s (receiverLen s) rows ok exact, openReceiverOf)
+  opened-receiver rows exact = rw (open-clear s (receiverLen s) rows ok exact, openReceiverOf)
 
   -- the reports after an accepted opening are a chain from slot 0 and received zeros on
   pub opened-chain : (rows : List ℕ) → length rows ≡ receiverLen s → (calls : List Report)

@@ -16,7 +16,9 @@ use Rattle.protocol.specs.declared.Reply.the-variants as reply
 use Rattle.protocol.specs.Lengths.{rowLen, rowCount}
 use Rattle.protocol.specs.Rows.{putRow}
 use Rattle.protocol.specs.Verdict.{noneFits, twoDiffer, verdict}
-use Rattle.protocol.specs.Causes.{Found, nothing, cause, lossCause, frameCause}
+use Rattle.protocol.specs.declared.Answer.{Answer}
+use Rattle.protocol.specs.declared.Answer.the-variants as answer
+use Rattle.protocol.specs.Causes.{lossCause, frameCause}
 use Rattle.protocol.specs.Numbers.{replyNumber}
 use Rattle.protocol.specs.Calls.{Reported, messageDue, movedOn, lossOf, heardOf, openReceiverOf}
 use Rattle.protocol.specs.TwoLists.{Report, heard, missed, reportOf, rowOf, reports}
@@ -95,16 +97,16 @@ accepted-moves : (x : Receiver) (rows : List ℕ) (call : Report) → T (accepts
 unfolding reportOf rowOf
 accepted-moves x rows (heard frame message) ok = go (frameCause x rows frame message) refl
   where
-    go : (f : Found) → frameCause x rows frame message ≡ f
+    go : (f : Answer) → frameCause x rows frame message ≡ f
         → heardOf x rows frame message ≡ movedOn x (rowOf (x .settings) (heard frame message)) rows
-    go nothing e = heard-moves x rows frame message e
-    go (cause c) e = absurd (subst (λ (r : Reported). T (accepts (r .reply))) (heard-stays x rows frame message c e) ok)
+    go answer.Accepted e = heard-moves x rows frame message e
+    go (answer.Refused c) e = absurd (subst (λ (r : Reported). T (accepts (r .reply))) (heard-stays x rows frame message c e) ok)
 accepted-moves x rows (missed message) ok = go (lossCause x rows message) refl
   where
-    go : (f : Found) → lossCause x rows message ≡ f
+    go : (f : Answer) → lossCause x rows message ≡ f
         → lossOf x rows message ≡ movedOn x (rowOf (x .settings) (missed message)) rows
-    go nothing e = loss-moves x rows message e
-    go (cause c) e = absurd (subst (λ (r : Reported). T (accepts (r .reply))) (loss-stays x rows message c e) ok)
+    go answer.Accepted e = loss-moves x rows message e
+    go (answer.Refused c) e = absurd (subst (λ (r : Reported). T (accepts (r .reply))) (loss-stays x rows message c e) ok)
 
 -- demand 2, the receiver. Wrong definitions that agree with themselves, and what in the statement rules each out:
 -- - lost for any slot not heard: 18 asks for two fitting words that differ in the message

@@ -11,12 +11,14 @@ use Rattle.protocol.specs.declared.Receiver.{Receiver}
 use Rattle.protocol.specs.declared.Cause.{Cause}
 use Rattle.protocol.specs.declared.Reply.the-variants as reply
 use Rattle.protocol.specs.Lengths.{rowLen, receiverLen}
-use Rattle.protocol.specs.Causes.{Found, nothing, cause, lossCause, frameCause}
+use Rattle.protocol.specs.declared.Answer.{Answer}
+use Rattle.protocol.specs.declared.Answer.the-variants as answer
+use Rattle.protocol.specs.Causes.{lossCause, frameCause}
 use Rattle.protocol.specs.Calls.{Reported, movedOn, lossOf, heardOf}
 use Rattle.protocol.specs.TwoLists.{Report, heard, missed, reportOf, ReportMade, rowOf}
 use Rattle.protocol.specs.Histories.{accepts}
 use Rattle.protocol.specs.Claim.{NoCause}
-use Rattle.protocol.proofs.ReportCauses.{loss-open, loss-nothing, frame-open, frame-nothing}
+use Rattle.protocol.proofs.ReportCauses.{loss-open, loss-clear, frame-open, frame-clear}
 use Rattle.protocol.proofs.ReportRows.{moved-accepts}
 
 -- the report of a call
@@ -41,22 +43,22 @@ abbrev pub refusal : Cause → Receiver → List ℕ → List ℕ → Reported
 refusal c x rows message = record { reply = reply.Refused c; receiver = x; rows = rows; message = message }
 
 -- where no cause is found a frame report moves on by its row, and a loss report by zeros; else it is refused
-pub heard-moves : (x : Receiver) (rows frame message : List ℕ) → frameCause x rows frame message ≡ nothing
+pub heard-moves : (x : Receiver) (rows frame message : List ℕ) → frameCause x rows frame message ≡ answer.Accepted
     → heardOf x rows frame message ≡ movedOn x (1 ∷ drop 14 frame) rows
 unfolding heardOf
 heard-moves x rows frame message e = rw (e, heardOf)
 
-pub heard-stays : (x : Receiver) (rows frame message : List ℕ) (c : Cause) → frameCause x rows frame message ≡ cause c
+pub heard-stays : (x : Receiver) (rows frame message : List ℕ) (c : Cause) → frameCause x rows frame message ≡ answer.Refused c
     → heardOf x rows frame message ≡ refusal c x rows message
 unfolding heardOf
 heard-stays x rows frame message c e = rw (e, heardOf)
 
-pub loss-moves : (x : Receiver) (rows message : List ℕ) → lossCause x rows message ≡ nothing
+pub loss-moves : (x : Receiver) (rows message : List ℕ) → lossCause x rows message ≡ answer.Accepted
     → lossOf x rows message ≡ movedOn x (replicate (rowLen (x .settings)) 0) rows
 unfolding lossOf
 loss-moves x rows message e = rw (e, lossOf)
 
-pub loss-stays : (x : Receiver) (rows message : List ℕ) (c : Cause) → lossCause x rows message ≡ cause c
+pub loss-stays : (x : Receiver) (rows message : List ℕ) (c : Cause) → lossCause x rows message ≡ answer.Refused c
     → lossOf x rows message ≡ refusal c x rows message
 unfolding lossOf
 loss-stays x rows message c e = rw (e, lossOf)
@@ -80,23 +82,23 @@ stayed x rows call c message blocked e = record {
   same-rows = ap (λ (r : Reported). r .rows) e;
 }
 
-never : (f : Found) (c : Cause) → f ≡ cause c → f ≡ nothing → ⊥
+never : (f : Answer) (c : Cause) → f ≡ answer.Refused c → f ≡ answer.Accepted → ⊥
 never f c p q = let z : _≡_ {A = ℕ} 0 1 = cc in omega arith
 
 module _ (x : Receiver) (rows : List ℕ) (ok : T (accepted (x .settings))) (exact : length rows ≡ receiverLen (x .settings)) where
-  heard-step : (frame message : List ℕ) (found : Found) → frameCause x rows frame message ≡ found
+  heard-step : (frame message : List ℕ) (found : Answer) → frameCause x rows frame message ≡ found
       → Taken (made x rows (heard frame message)) ⊎ Stayed (made x rows (heard frame message))
   unfolding reportOf rowOf
-  heard-step frame message nothing e =
+  heard-step frame message answer.Accepted e =
       let h = frame-open x rows message frame e in
       inl (taken x rows (heard frame message) (h .message-exact, h .frame-exact, h .in-time, h .headed)
       (heard-moves x rows frame message e))
-  heard-step frame message (cause c) e =
+  heard-step frame message (answer.Refused c) e =
       inr
       (stayed x rows (heard frame message) c message
       (λ h.
       never (frameCause x rows frame message) c e
-      (frame-nothing x rows message frame record {
+      (frame-clear x rows message frame record {
         settings = ok;
         rows-exact = exact;
         frame-exact = h .1;
@@ -106,18 +108,18 @@ module _ (x : Receiver) (rows : List ℕ) (ok : T (accepted (x .settings))) (exa
       }))
       (heard-stays x rows frame message c e))
 
-  loss-step : (message : List ℕ) (found : Found) → lossCause x rows message ≡ found
+  loss-step : (message : List ℕ) (found : Answer) → lossCause x rows message ≡ found
       → Taken (made x rows (missed message)) ⊎ Stayed (made x rows (missed message))
   unfolding reportOf rowOf
-  loss-step message nothing e =
+  loss-step message answer.Accepted e =
       let h = loss-open x rows message e in
       inl (taken x rows (missed message) (h .message-exact, h .in-time) (loss-moves x rows message e))
-  loss-step message (cause c) e =
+  loss-step message (answer.Refused c) e =
       inr
       (stayed x rows (missed message) c message
       (λ h.
       never (lossCause x rows message) c e
-      (loss-nothing x rows message record { settings = ok; rows-exact = exact; message-exact = h .0; in-time = h .1 }))
+      (loss-clear x rows message record { settings = ok; rows-exact = exact; message-exact = h .0; in-time = h .1 }))
       (loss-stays x rows message c e))
 
   -- a report at exact rows is accepted or refused, by its own cause alone

@@ -19,9 +19,10 @@ use Rattle.protocol.specs.Lengths.{lastSlot, messageLen, frameLen, sende
 use Rattle.protocol.specs.States.{openedSender, sentOn}
 use Rattle.protocol.specs.Frame.{frameOf}
 use Rattle.protocol.specs.Rows.{putRow}
-use Rattle.protocol.specs.Causes.{Found, nothing, cause, sendTable, sendCause}
+use Rattle.protocol.specs.declared.Answer.{Answer}
+use Rattle.protocol.specs.Causes.{sendTable, sendCause}
 use Rattle.protocol.specs.Calls.{Sent, openSenderOf, sendOf}
-use Rattle.protocol.proofs.CauseTables.{none-holds, passes, fails, open-nothing}
+use Rattle.protocol.proofs.CauseTables.{none-holds, passes, fails, open-clear}
 
 -- ---- the opening
 
@@ -30,7 +31,7 @@ pub opened-sender : (s : Settings) (rows : List ℕ) → T (accepted s) → leng
     → openSenderOf s rows
     ≡ record { answer = answer.Accepted; sender = openedSender s; rows = replicate (senderLen s) 0 }
 unfolding openSenderOf
-opened-sender s rows ok full = rw (open-nothing s (senderLen s) rows ok full, openSenderOf)
+opened-sender s rows ok full = rw (open-clear s (senderLen s) rows ok full, openSenderOf)
 
 -- ---- a send
 
@@ -57,9 +58,9 @@ refusedSend c x rows frame = record { answer = answer.Refused c; sender = x; row
 
 module _ (x : Sender) (rows message frame : List ℕ) where
   -- the table finds nothing where the conditions hold
-  pub send-nothing : Sendable x rows message frame → sendCause x rows message frame ≡ nothing
+  pub send-clear : Sendable x rows message frame → sendCause x rows message frame ≡ answer.Accepted
   unfolding sendCause
-  send-nothing h =
+  send-clear h =
       rw (
         fails (accepted (x .settings)) (h .settled),
         eq-eqb (length rows) (senderLen (x .settings)) (h .rows-exact),
@@ -69,9 +70,9 @@ module _ (x : Sender) (rows message frame : List ℕ) where
       )
 
   -- and only there
-  pub nothing-send : sendCause x rows message frame ≡ nothing → Sendable x rows message frame
+  pub clear-send : sendCause x rows message frame ≡ answer.Accepted → Sendable x rows message frame
   unfolding sendCause
-  nothing-send e =
+  clear-send e =
       let s = x .settings in
       let a : Bool = eqb (length rows) (senderLen s) in
       let b : Bool = eqb (length message) (messageLen s) in
@@ -94,14 +95,14 @@ pub data SendCase (x : Sender) (rows message frame : List ℕ) : Type 0 where
       → SendCase x rows message frame
 
 -- by what the table finds
-found-case : (x : Sender) (rows message frame : List ℕ) (f : Found) → sendCause x rows message frame ≡ f
+found-case : (x : Sender) (rows message frame : List ℕ) (f : Answer) → sendCause x rows message frame ≡ f
     → SendCase x rows message frame
 unfolding sendOf
-found-case x rows message frame nothing e = taken (nothing-send x rows message frame e) (rw (e, sendOf))
-found-case x rows message frame (cause c) e =
+found-case x rows message frame answer.Accepted e = taken (clear-send x rows message frame e) (rw (e, sendOf))
+found-case x rows message frame (answer.Refused c) e =
     refused c
     (λ h.
-    let other : sendCause x rows message frame ≡ nothing = send-nothing x rows message frame h in
+    let other : sendCause x rows message frame ≡ answer.Accepted = send-clear x rows message frame h in
     let z : _≡_ {A = ℕ} 0 1 = cc in
     omega arith)
     (rw (e, sendOf))

@@ -17,7 +17,7 @@ use Rattle.protocol.specs.States.{openedSender, sentOn, noSender, opened
 use Rattle.protocol.specs.Frame.{frameOf}
 use Rattle.protocol.specs.Rows.{putRow, joined}
 use Rattle.protocol.specs.Verdict.{verdict, bufferOf}
-use Rattle.protocol.specs.Causes.{nothing, cause, openCause, sendCause, lossCause, frameCause}
+use Rattle.protocol.specs.Causes.{openCause, sendCause, lossCause, frameCause}
 
 -- ---- the sender
 
@@ -30,8 +30,8 @@ pub record OpenedSender : Type 0 where
 unfoldable pub openSenderOf : Settings → List ℕ → OpenedSender
 openSenderOf s rows =
     elim (openCause s (senderLen s) rows) [
-      | nothing ↦ record { answer = answer.Accepted; sender = openedSender s; rows = replicate (senderLen s) 0 }
-      | cause c ↦ record { answer = answer.Refused c; sender = noSender; rows = rows }
+      | answer.Accepted ↦ record { answer = answer.Accepted; sender = openedSender s; rows = replicate (senderLen s) 0 }
+      | answer.Refused c ↦ record { answer = answer.Refused c; sender = noSender; rows = rows }
     ]
 
 pub record Sent : Type 0 where
@@ -44,13 +44,13 @@ pub record Sent : Type 0 where
 unfoldable pub sendOf : Sender → List ℕ → List ℕ → List ℕ → Sent
 sendOf x rows message frame =
     elim (sendCause x rows message frame) [
-      | nothing ↦ record {
+      | answer.Accepted ↦ record {
         answer = answer.Accepted;
         sender = sentOn x;
         rows = putRow (messageLen (x .settings)) (x .due % (nOf (x .settings) - 1)) message rows;
         frame = frameOf 1 (x .settings) rows message (x .due);
       }
-      | cause c ↦ record { answer = answer.Refused c; sender = x; rows = rows; frame = frame }
+      | answer.Refused c ↦ record { answer = answer.Refused c; sender = x; rows = rows; frame = frame }
     ]
 
 -- ---- the receiver
@@ -68,12 +68,12 @@ pub record OpenedReceiver : Type 0 where
 unfoldable pub openReceiverOf : Settings → List ℕ → OpenedReceiver
 openReceiverOf s rows =
     elim (openCause s (receiverLen s) rows) [
-      | nothing ↦ record {
+      | answer.Accepted ↦ record {
         answer = answer.Accepted;
         receiver = openedReceiver s;
         rows = joined (rowCount s) (λ r. receivedZeros s);
       }
-      | cause c ↦ record { answer = answer.Refused c; receiver = noReceiver; rows = rows }
+      | answer.Refused c ↦ record { answer = answer.Refused c; receiver = noReceiver; rows = rows }
     ]
 
 pub record Reported : Type 0 where
@@ -104,14 +104,14 @@ movedOn x row rows =
 unfoldable pub lossOf : Receiver → List ℕ → List ℕ → Reported
 lossOf x rows message =
     elim (lossCause x rows message) [
-      | nothing ↦ movedOn x (replicate (rowLen (x .settings)) 0) rows
-      | cause c ↦ record { reply = reply.Refused c; receiver = x; rows = rows; message = message }
+      | answer.Accepted ↦ movedOn x (replicate (rowLen (x .settings)) 0) rows
+      | answer.Refused c ↦ record { reply = reply.Refused c; receiver = x; rows = rows; message = message }
     ]
 
 -- an accepted frame writes 1 and then its body
 unfoldable pub heardOf : Receiver → List ℕ → List ℕ → List ℕ → Reported
 heardOf x rows frame message =
     elim (frameCause x rows frame message) [
-      | nothing ↦ movedOn x (1 ∷ drop 14 frame) rows
-      | cause c ↦ record { reply = reply.Refused c; receiver = x; rows = rows; message = message }
+      | answer.Accepted ↦ movedOn x (1 ∷ drop 14 frame) rows
+      | answer.Refused c ↦ record { reply = reply.Refused c; receiver = x; rows = rows; message = message }
     ]

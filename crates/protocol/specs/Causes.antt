@@ -11,6 +11,8 @@ use Rattle.protocol.specs.declared.Sender.{Sender}
 use Rattle.protocol.specs.declared.Receiver.{Receiver}
 use Rattle.protocol.specs.declared.Cause.{Cause}
 use Rattle.protocol.specs.declared.Cause.the-variants.{BadSettings, BadLength, PastLastSlot, OtherMark, OtherSettings, OtherSlot}
+use Rattle.protocol.specs.declared.Answer.{Answer}
+use Rattle.protocol.specs.declared.Answer.the-variants as answer
 use Rattle.protocol.specs.Lengths.{lastSlot, messageLen, frameLen, senderLen, receiverLen}
 use Rattle.protocol.specs.Frame.{mark, five, slotBytes}
 
@@ -23,14 +25,9 @@ numberOf OtherMark = 4
 numberOf OtherSettings = 5
 numberOf OtherSlot = 6
 
--- the first listed cause that holds, if there is one
-pub data Found : Type 0 where
-  nothing : Found
-  cause : Cause → Found
-
--- the cause c where its condition holds, else what the rest of the table finds
-abbrev pub check : Bool → Cause → Found → Found
-check true c rest = cause c
+-- refused for the cause c where its condition holds, else what the rest of the table says
+abbrev pub check : Bool → Cause → Answer → Answer
+check true c rest = answer.Refused c
 check false c rest = rest
 
 -- a row of a call's table: its condition, and the cause
@@ -38,12 +35,12 @@ pub record Row : Type 0 where
   pub holds : Bool
   pub why : Cause
 
-abbrev row : Bool → Cause → Row
+abbrev pub row : Bool → Cause → Row
 row condition c = record { holds = condition; why = c }
 
--- the table read from the top
-abbrev pub firstOf : List Row → Found
-firstOf [] = nothing
+-- the table read from the top: refused for the first cause that holds, if there is one
+abbrev pub firstOf : List Row → Answer
+firstOf [] = answer.Accepted
 firstOf (r ∷ rs) = check (r .holds) (r .why) (firstOf rs)
 
 -- two lists agree at the first m places
@@ -84,15 +81,15 @@ frameTable x rows frame message =
     ∷ row (not (agree 4 (drop 10 frame) (slotBytes (x .due)))) OtherSlot
     ∷ []
 
--- the first cause of each table that holds
-unfoldable pub openCause : Settings → ℕ → List ℕ → Found
+-- what each table says
+unfoldable pub openCause : Settings → ℕ → List ℕ → Answer
 openCause s size rows = firstOf (openTable s size rows)
 
-unfoldable pub sendCause : Sender → List ℕ → List ℕ → List ℕ → Found
+unfoldable pub sendCause : Sender → List ℕ → List ℕ → List ℕ → Answer
 sendCause x rows message frame = firstOf (sendTable x rows message frame)
 
-unfoldable pub lossCause : Receiver → List ℕ → List ℕ → Found
+unfoldable pub lossCause : Receiver → List ℕ → List ℕ → Answer
 lossCause x rows message = firstOf (lossTable x rows message)
 
-unfoldable pub frameCause : Receiver → List ℕ → List ℕ → List ℕ → Found
+unfoldable pub frameCause : Receiver → List ℕ → List ℕ → List ℕ → Answer
 frameCause x rows frame message = firstOf (frameTable x rows frame message)

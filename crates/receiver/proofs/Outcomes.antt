@@ -19,7 +19,7 @@ use Rattle.protocol.specs.declared.Reply.the-variants as reply
 use Rattle.protocol.specs.States.{reportedOn, noReceiver}
 use Rattle.protocol.specs.Rows.{putRow}
 use Rattle.protocol.specs.Verdict.{verdict, bufferOf}
-use Rattle.protocol.specs.Causes.{cause, openCause}
+use Rattle.protocol.specs.Causes.{openCause}
 use Rattle.protocol.specs.Calls.{OpenedReceiver, openReceiverOf, Reported, messageDue, movedOn}
 use Rattle.protocol.proofs.CauseTables.{fails}
 
@@ -29,7 +29,7 @@ abbrev pub unopened : Cause → List ℕ → OpenedReceiver
 unopened c rows = record { answer = answer.Refused c; receiver = noReceiver; rows = rows }
 
 module _ (s : Settings) (rows : List ℕ) where
-  found-opening : (c : Cause) → openCause s (receiverLen s) rows ≡ cause c → unopened c rows ≡ openReceiverOf s rows
+  found-opening : (c : Cause) → openCause s (receiverLen s) rows ≡ answer.Refused c → unopened c rows ≡ openReceiverOf s rows
   unfolding openReceiverOf
   found-opening c e = rw (e, openReceiverOf)
 

@@ -15,7 +15,7 @@ use Rattle.protocol.specs.declared.Cause.the-variants.{BadSettings, BadLength, 
 use Rattle.protocol.specs.declared.Answer.the-variants as answer
 use Rattle.protocol.specs.Lengths.{lastSlot, messageLen, frameLen, senderLen}
 use Rattle.protocol.specs.States.{noSender}
-use Rattle.protocol.specs.Causes.{nothing, cause, openCause, sendCause}
+use Rattle.protocol.specs.Causes.{openCause, sendCause}
 use Rattle.protocol.specs.Calls.{OpenedSender, openSenderOf, sendOf}
 use Rattle.protocol.proofs.CauseTables.{fails}
 use Rattle.protocol.proofs.Sending.{takenSend, refusedSend}
@@ -26,7 +26,7 @@ abbrev pub refusedOpening : Cause → List ℕ → OpenedSender
 refusedOpening c rows = record { answer = answer.Refused c; sender = noSender; rows = rows }
 
 module _ (s : Settings) (rows : List ℕ) where
-  found-opening : (c : Cause) → openCause s (senderLen s) rows ≡ cause c → refusedOpening c rows ≡ openSenderOf s rows
+  found-opening : (c : Cause) → openCause s (senderLen s) rows ≡ answer.Refused c → refusedOpening c rows ≡ openSenderOf s rows
   unfolding openSenderOf
   found-opening c e = rw (e, openSenderOf)
 
@@ -41,7 +41,7 @@ module _ (s : Settings) (rows : List ℕ) where
 -- ---- a send
 
 module _ (x : Sender) (rows message frame : List ℕ) where
-  found-send : (c : Cause) → sendCause x rows message frame ≡ cause c
+  found-send : (c : Cause) → sendCause x rows message frame ≡ answer.Refused c
       → refusedSend c x rows frame ≡ sendOf x rows message frame
   unfolding sendOf
   found-send c e = rw (e, sendOf)
@@ -67,10 +67,10 @@ module _ (x : Sender) (rows message frame : List ℕ) where
   send-late ok exact late =
       found-send PastLastSlot (rw (fails (accepted (x .settings)) ok, exact, lt-ltb lastSlot (x .due) late))
 
-  pub send-none : T (accepted (x .settings)) → lengths ≡ true → x .due ≤ lastSlot → sendCause x rows message frame ≡ nothing
+  pub send-none : T (accepted (x .settings)) → lengths ≡ true → x .due ≤ lastSlot → sendCause x rows message frame ≡ answer.Accepted
   unfolding sendCause
   send-none ok exact in-time = rw (fails (accepted (x .settings)) ok, exact, le-ltb lastSlot (x .due) in-time)
 
-  pub send-taken : sendCause x rows message frame ≡ nothing → takenSend x rows message ≡ sendOf x rows message frame
+  pub send-taken : sendCause x rows message frame ≡ answer.Accepted → takenSend x rows message ≡ sendOf x rows message frame
   unfolding sendOf
   send-taken none = rw (none, sendOf)

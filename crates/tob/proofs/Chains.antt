@@ -12,12 +12,14 @@ use Rattle.code.specs.Settings.{accepted}
 use Rattle.protocol.specs.declared.Sender.{Sender}
 use Rattle.protocol.specs.declared.Receiver.{Receiver}
 use Rattle.protocol.specs.declared.Cause.{Cause}
-use Rattle.protocol.specs.Causes.{Found, nothing, cause, lossCause, frameCause}
+use Rattle.protocol.specs.declared.Answer.{Answer}
+use Rattle.protocol.specs.declared.Answer.the-variants as answer
+use Rattle.protocol.specs.Causes.{lossCause, frameCause}
 use Rattle.protocol.specs.Lengths.{lastSlot, senderLen, receiverLen}
 use Rattle.protocol.specs.Calls.{OpenedSender, OpenedReceiver, Sent, Reported, openSenderOf, openReceiverOf, sendOf, movedOn, lossOf, heardOf}
 use Rattle.protocol.specs.Histories.{accepts}
 use Rattle.protocol.specs.TwoLists.{Send, SendMade, sends, Report, heard, missed, reportOf, ReportMade, reports}
-use Rattle.protocol.proofs.CauseTables.{open-nothing}
+use Rattle.protocol.proofs.CauseTables.{open-clear}
 use Rattle.protocol.proofs.Sending as sending
 use Rattle.protocol.proofs.ReportCauses.{loss-open, frame-open}
 use Rattle.protocol.proofs.ReportRows.{moved-accepts}
@@ -35,7 +37,7 @@ use Rattle.tob.proofs.Outcomes.{senderLeft, sender-uncaused, receiverLe
 
 -- the bytes are a sender's state, and keep this sender
 pub record KeepsSender (state : List ℕ) (x : Sender) : Type 0 where
-  pub uncaused : stateCause senderEnd state nothing ≡ nothing
+  pub uncaused : stateCause senderEnd state ≡ answer.Accepted
   pub reads : senderIn state ≡ x
 
 -- a state that was written keeps what it was written from
@@ -54,7 +56,7 @@ opened-sender-read settings state rows ok room full =
     subst
     (λ (b : Opening).
     (b .reply ≡ 0) × (b .rows ≡ openSenderOf s rows .rows) × KeepsSender (b .state) (openSenderOf s rows .sender))
-    (sender-uncaused settings state rows (open-nothing s stateLen state ok room))
+    (sender-uncaused settings state rows (open-clear s stateLen state ok room))
     (subst⁻¹
     (λ (r : OpenedSender).
     (senderLeft state r .reply ≡ 0) × (senderLeft state r .rows ≡ r .rows) × KeepsSender (senderLeft state r .state) (r .sender))
@@ -67,7 +69,7 @@ pub record SendStep (state rows message frame : List ℕ) (x : Sender) : Type 0 
   pub next : KeepsSender (sendBytes state rows message frame .state) (sendOf x rows message frame .sender)
   pub due : sendOf x rows message frame .sender .due ≡ dueAfter (x .due) (sendBytes state rows message frame .reply)
 
-module _ (state rows message frame : List ℕ) (none : stateCause senderEnd state nothing ≡ nothing) where
+module _ (state rows message frame : List ℕ) (none : stateCause senderEnd state ≡ answer.Accepted) where
   abbrev x : Sender
   x = senderIn state
 
@@ -128,7 +130,7 @@ sends-read (c ∷ cs) due state rows x k e =
 
 -- the bytes are a receiver's state, and keep this receiver
 pub record KeepsReceiver (state : List ℕ) (y : Receiver) : Type 0 where
-  pub uncaused : stateCause receiverEnd state nothing ≡ nothing
+  pub uncaused : stateCause receiverEnd state ≡ answer.Accepted
   pub reads : receiverIn state ≡ y
 
 kept-receiver : (s : Settings) (due : ℕ) → due ≤ lastSlot + 1
@@ -147,7 +149,7 @@ opened-receiver-read settings state rows ok room full =
     subst
     (λ (b : Opening).
     (b .reply ≡ 0) × (b .rows ≡ openReceiverOf s rows .rows) × KeepsReceiver (b .state) (openReceiverOf s rows .receiver))
-    (receiver-uncaused settings state rows (open-nothing s stateLen state ok room))
+    (receiver-uncaused settings state rows (open-clear s stateLen state ok room))
     (subst⁻¹
     (λ (r : OpenedReceiver).
     (receiverLeft state r .reply ≡ 0) × (receiverLeft state r .rows ≡ r .rows)
@@ -161,7 +163,7 @@ pub record ReportStep (state rows : List ℕ) (call : Report) (y : Receiver) : T
   pub next : KeepsReceiver (reportBytes state rows call .state) (reportOf y rows call .receiver)
   pub due : reportOf y rows call .receiver .due ≡ dueAfter (y .due) (reportBytes state rows call .reply)
 
-module _ (state rows : List ℕ) (none : stateCause receiverEnd state nothing ≡ nothing) where
+module _ (state rows : List ℕ) (none : stateCause receiverEnd state ≡ answer.Accepted) where
   abbrev y : Receiver
   y = receiverIn state
 
@@ -188,16 +190,16 @@ module _ (state rows : List ℕ) (none : stateCause receiverEnd state nothing �
       (record { uncaused = none; reads = refl }, ap (λ (t : Bool). cond t (y .due + 1) (y .due)) (sym (cause-refused c)))
 
   -- by the cause that is found
-  heard-next : (frame message : List ℕ) (found : Found) → frameCause y rows frame message ≡ found → After (heardOf y rows frame message)
-  heard-next frame message nothing e =
+  heard-next : (frame message : List ℕ) (found : Answer) → frameCause y rows frame message ≡ found → After (heardOf y rows frame message)
+  heard-next frame message answer.Accepted e =
       subst⁻¹ After (steps.heard-moves y rows frame message e)
       (moved-next (1 ∷ drop 14 frame) (frame-open y rows message frame e .in-time))
-  heard-next frame message (cause c) e = subst⁻¹ After (steps.heard-stays y rows frame message c e) (stayed-next c message)
+  heard-next frame message (answer.Refused c) e = subst⁻¹ After (steps.heard-stays y rows frame message c e) (stayed-next c message)
 
-  lost-next : (message : List ℕ) (found : Found) → lossCause y rows message ≡ found → After (lossOf y rows message)
-  lost-next message nothing e =
+  lost-next : (message : List ℕ) (found : Answer) → lossCause y rows message ≡ found → After (lossOf y rows message)
+  lost-next message answer.Accepted e =
       subst⁻¹ After (steps.loss-moves y rows message e) (moved-next _ (loss-open y rows message e .in-time))
-  lost-next message (cause c) e = subst⁻¹ After (steps.loss-stays y rows message c e) (stayed-next c message)
+  lost-next message (answer.Refused c) e = subst⁻¹ After (steps.loss-stays y rows message c e) (stayed-next c message)
 
   report-next : (call : Report) → After (reportOf y rows call)
   unfolding reportOf

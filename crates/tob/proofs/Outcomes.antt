@@ -1,7 +1,7 @@
 -- What each way out of a call gives back: where the state gives a cause, that refusal; else what protocol's call leaves.
 use mathlib.Core.Path.{_≡_, refl}
 use mathlib.Core.Bool.{Bool, true, false, cond, not, _&&_}
-use mathlib.Core.List.{List, _∷_}
+use mathlib.Core.List.{List, [], _∷_}
 use Prim.Native.Nat.{ℕ}
 use lib.Dec.{eqb, eqb→eq}
 use lib.ListN.{length, drop}
@@ -11,15 +11,16 @@ use Rattle.code.specs.Settings.{accepted}
 use Rattle.protocol.specs.declared.Cause.{Cause}
 use Rattle.protocol.specs.declared.Cause.the-variants.{BadSettings, BadLength}
 use Rattle.protocol.specs.Lengths.{senderLen, receiverLen}
-use Rattle.protocol.specs.Causes.{Found, nothing, cause, numberOf, check, openCause, sendCause, lossCause, frameCause}
+use Rattle.protocol.specs.declared.Answer.{Answer}
+use Rattle.protocol.specs.declared.Answer.the-variants as answer
+use Rattle.protocol.specs.Causes.{numberOf, row, firstOf, openTable, sendTable, lossTable, frameTable, openCause, sendCause, lossCause, frameCause}
 use Rattle.protocol.specs.Calls.{OpenedSender, OpenedReceiver, Sent, Reported, openSenderOf, sendOf, openReceiverOf, movedOn, heardOf, lossOf}
 use Rattle.protocol.specs.Histories.{accepts}
-use Rattle.protocol.proofs.CauseTables.{check-nothing, passes}
+use Rattle.protocol.proofs.CauseTables.{none-holds, followedBy, one-below, passes}
 use Rattle.protocol.proofs.ReportRows.{moved-accepts}
-use Rattle.layout.specs.State.{senderEnd, receiverEnd, saved, stateLen, settingsAt, senderIn, receiverIn, stateCause}
+use Rattle.layout.specs.State.{senderEnd, receiverEnd, saved, stateLen, settingsAt, senderIn, receiverIn, stateTable, stateCause}
 use Rattle.protocol.specs.Numbers.{answerNumber, replyNumber}
 use Rattle.layout.specs.Numbers.{taken}
-use Rattle.layout.proofs.KeptStates.{caused-rest, uncaused-rest}
 use Rattle.tob.specs.Causes.{openBytesCause, sendBytesCause, heardBytesCause, lostBytesCause}
 use Rattle.tob.specs.Calls.{settingsOf, lengthFor, Opening, openSenderBytes, openReceiverBytes, Sending, sendBytes, Reporting, reportedBytes, heardBytes, lostBytes}
 
@@ -30,39 +31,46 @@ pub length-for : (size : Settings → ℕ) (settings : List ℕ)
 unfolding settingsOf lengthFor
 length-for size settings = refl
 
+-- ---- causes
+
+-- the cause that the settings or the state give an opening, else that of protocol's opening
+pub open-cause : (s : Settings) (size : ℕ) (state rows : List ℕ)
+    → openBytesCause s size state rows ≡ followedBy (openCause s stateLen state) (openCause s size rows)
+unfolding openCause openBytesCause
+open-cause s size state rows = go (accepted s) (eqb (length state) stateLen)
+  where
+    go : (p q : Bool)
+        → firstOf (row (not p) BadSettings ∷ row (not (q && eqb (length rows) size)) BadLength ∷ [])
+        ≡ followedBy (firstOf (row (not p) BadSettings ∷ row (not q) BadLength ∷ []))
+        (firstOf (row (not p) BadSettings ∷ row (not (eqb (length rows) size)) BadLength ∷ []))
+    go false q = refl
+    go true false = refl
+    go true true = refl
+
+-- the cause that the state gives, else that of protocol's call on what it keeps
+module _ (state rows message : List ℕ) where
+  pub send-cause : (frame : List ℕ)
+      → sendBytesCause state rows message frame ≡ followedBy (stateCause senderEnd state) (sendCause (senderIn state) rows message frame)
+  unfolding stateCause sendCause sendBytesCause
+  send-cause frame = one-below (stateTable senderEnd state) (sendTable (senderIn state) rows message frame)
+
+  pub heard-cause : (frame : List ℕ)
+      → heardBytesCause state rows frame message ≡ followedBy (stateCause receiverEnd state) (frameCause (receiverIn state) rows frame message)
+  unfolding stateCause frameCause heardBytesCause
+  heard-cause frame = one-below (stateTable receiverEnd state) (frameTable (receiverIn state) rows frame message)
+
+  pub lost-cause : lostBytesCause state rows message ≡ followedBy (stateCause receiverEnd state) (lossCause (receiverIn state) rows message)
+  unfolding stateCause lossCause lostBytesCause
+  lost-cause = one-below (stateTable receiverEnd state) (lossTable (receiverIn state) rows message)
+
 -- ---- openings
 
-module _ (s : Settings) (size : ℕ) (state rows : List ℕ) where
-  -- a cause that the settings or the state give is the opening's
-  open-caused : (c : Cause) → openCause s stateLen state ≡ cause c → openBytesCause s size state rows ≡ cause c
-  unfolding openCause openBytesCause
-  open-caused c = go (accepted s) (eqb (length state) stateLen)
-    where
-      go : (p q : Bool) → check (not p) BadSettings (check (not q) BadLength nothing) ≡ cause c
-          → check (not p) BadSettings (check (not (q && eqb (length rows) size)) BadLength nothing) ≡ cause c
-      go false q e = e
-      go true false e = e
-      go true true e = cc
-
-  -- else protocol's opening finds it
-  open-uncaused : openCause s stateLen state ≡ nothing → openBytesCause s size state rows ≡ openCause s size rows
-  unfolding openCause openBytesCause
-  open-uncaused = go (accepted s) (eqb (length state) stateLen)
-    where
-      go : (p q : Bool) → check (not p) BadSettings (check (not q) BadLength nothing) ≡ nothing
-          → check (not p) BadSettings (check (not (q && eqb (length rows) size)) BadLength nothing)
-          ≡ check (not p) BadSettings (check (not (eqb (length rows) size)) BadLength nothing)
-      go false q e = refl
-      go true false e = cc
-      go true true e = refl
-
 -- where the settings and the state give no cause, the state has its length
-pub opened-length : (s : Settings) (state : List ℕ) → openCause s stateLen state ≡ nothing → length state ≡ stateLen
+pub opened-length : (s : Settings) (state : List ℕ) → openCause s stateLen state ≡ answer.Accepted → length state ≡ stateLen
 unfolding openCause
 opened-length s state none =
     eqb→eq (length state) stateLen
-    (passes (eqb (length state) stateLen)
-    (check-nothing (not (eqb (length state) stateLen)) BadLength nothing (check-nothing (not (accepted s)) BadSettings _ none .1) .0))
+    (passes (eqb (length state) stateLen) (none-holds (openTable s stateLen state) none BadLength))
 
 -- what protocol's opening of a sender leaves of the lent lists
 abbrev pub senderLeft : List ℕ → OpenedSender → Opening
@@ -84,33 +92,33 @@ module _ (settings state rows : List ℕ) where
   abbrev s : Settings
   s = settingsAt 0 settings
 
-  pub sender-caused : (c : Cause) → openCause s stateLen state ≡ cause c
+  pub sender-caused : (c : Cause) → openCause s stateLen state ≡ answer.Refused c
       → record { reply = numberOf c; state = state; rows = rows } ≡ openSenderBytes settings state rows
   unfolding settingsOf openSenderBytes
-  sender-caused c e = rw (open-caused s (senderLen s) state rows c e, openSenderBytes)
+  sender-caused c e = rw (open-cause s (senderLen s) state rows, e, openSenderBytes)
 
-  pub sender-uncaused : openCause s stateLen state ≡ nothing → senderLeft state (openSenderOf s rows) ≡ openSenderBytes settings state rows
+  pub sender-uncaused : openCause s stateLen state ≡ answer.Accepted → senderLeft state (openSenderOf s rows) ≡ openSenderBytes settings state rows
   unfolding settingsOf openSenderOf openSenderBytes
   sender-uncaused none = go (openCause s (senderLen s) rows) refl
     where
-      go : (f : Found) → openCause s (senderLen s) rows ≡ f → senderLeft state (openSenderOf s rows) ≡ openSenderBytes settings state rows
-      go nothing e = rw (open-uncaused s (senderLen s) state rows none, e, openSenderBytes, openSenderOf, e, openSenderOf)
-      go (cause c) e = rw (open-uncaused s (senderLen s) state rows none, e, openSenderBytes, openSenderOf)
+      go : (f : Answer) → openCause s (senderLen s) rows ≡ f → senderLeft state (openSenderOf s rows) ≡ openSenderBytes settings state rows
+      go answer.Accepted e = rw (open-cause s (senderLen s) state rows, none, e, openSenderBytes, openSenderOf, e, openSenderOf)
+      go (answer.Refused c) e = rw (open-cause s (senderLen s) state rows, none, e, openSenderBytes, openSenderOf)
 
-  pub receiver-caused : (c : Cause) → openCause s stateLen state ≡ cause c
+  pub receiver-caused : (c : Cause) → openCause s stateLen state ≡ answer.Refused c
       → record { reply = numberOf c; state = state; rows = rows } ≡ openReceiverBytes settings state rows
   unfolding settingsOf openReceiverBytes
-  receiver-caused c e = rw (open-caused s (receiverLen s) state rows c e, openReceiverBytes)
+  receiver-caused c e = rw (open-cause s (receiverLen s) state rows, e, openReceiverBytes)
 
-  pub receiver-uncaused : openCause s stateLen state ≡ nothing
+  pub receiver-uncaused : openCause s stateLen state ≡ answer.Accepted
       → receiverLeft state (openReceiverOf s rows) ≡ openReceiverBytes settings state rows
   unfolding settingsOf openReceiverOf openReceiverBytes
   receiver-uncaused none = go (openCause s (receiverLen s) rows) refl
     where
-      go : (f : Found) → openCause s (receiverLen s) rows ≡ f
+      go : (f : Answer) → openCause s (receiverLen s) rows ≡ f
           → receiverLeft state (openReceiverOf s rows) ≡ openReceiverBytes settings state rows
-      go nothing e = rw (open-uncaused s (receiverLen s) state rows none, e, openReceiverBytes, openReceiverOf, e, openReceiverOf)
-      go (cause c) e = rw (open-uncaused s (receiverLen s) state rows none, e, openReceiverBytes, openReceiverOf)
+      go answer.Accepted e = rw (open-cause s (receiverLen s) state rows, none, e, openReceiverBytes, openReceiverOf, e, openReceiverOf)
+      go (answer.Refused c) e = rw (open-cause s (receiverLen s) state rows, none, e, openReceiverBytes, openReceiverOf)
 
 -- ---- a send
 
@@ -124,20 +132,20 @@ sendLeft state r = record {
 }
 
 module _ (state rows message frame : List ℕ) where
-  pub send-caused : (c : Cause) → stateCause senderEnd state nothing ≡ cause c
+  pub send-caused : (c : Cause) → stateCause senderEnd state ≡ answer.Refused c
       → record { reply = numberOf c; state = state; rows = rows; frame = frame } ≡ sendBytes state rows message frame
-  unfolding sendBytesCause sendBytes
-  send-caused c e = rw (caused-rest senderEnd state c e (sendCause (senderIn state) rows message frame), sendBytes)
+  unfolding sendBytes
+  send-caused c e = rw (send-cause state rows message frame, e, sendBytes)
 
-  pub send-uncaused : stateCause senderEnd state nothing ≡ nothing
+  pub send-uncaused : stateCause senderEnd state ≡ answer.Accepted
       → sendLeft state (sendOf (senderIn state) rows message frame) ≡ sendBytes state rows message frame
-  unfolding sendOf sendBytesCause sendBytes
+  unfolding sendOf sendBytes
   send-uncaused none = go (sendCause (senderIn state) rows message frame) refl
     where
-      go : (f : Found) → sendCause (senderIn state) rows message frame ≡ f
+      go : (f : Answer) → sendCause (senderIn state) rows message frame ≡ f
           → sendLeft state (sendOf (senderIn state) rows message frame) ≡ sendBytes state rows message frame
-      go nothing e = rw (uncaused-rest senderEnd state none, e, sendBytes, sendOf, e, sendOf)
-      go (cause c) e = rw (uncaused-rest senderEnd state none, e, sendBytes, sendOf)
+      go answer.Accepted e = rw (send-cause state rows message frame, none, e, sendBytes, sendOf, e, sendOf)
+      go (answer.Refused c) e = rw (send-cause state rows message frame, none, e, sendBytes, sendOf)
 
 -- ---- reports
 
@@ -161,31 +169,31 @@ module _ (state rows message : List ℕ) where
   unreported c = record { reply = numberOf c; state = state; rows = rows; message = message }
 
   module _ (frame : List ℕ) where
-    pub heard-caused : (c : Cause) → stateCause receiverEnd state nothing ≡ cause c → unreported c ≡ heardBytes state rows frame message
-    unfolding heardBytesCause heardBytes
-    heard-caused c e = rw (caused-rest receiverEnd state c e (frameCause (receiverIn state) rows frame message), heardBytes)
+    pub heard-caused : (c : Cause) → stateCause receiverEnd state ≡ answer.Refused c → unreported c ≡ heardBytes state rows frame message
+    unfolding heardBytes
+    heard-caused c e = rw (heard-cause state rows message frame, e, heardBytes)
 
-    pub heard-uncaused : stateCause receiverEnd state nothing ≡ nothing
+    pub heard-uncaused : stateCause receiverEnd state ≡ answer.Accepted
         → reportLeft state (heardOf (receiverIn state) rows frame message) ≡ heardBytes state rows frame message
-    unfolding heardOf heardBytesCause heardBytes
+    unfolding heardOf heardBytes
     heard-uncaused none = go (frameCause (receiverIn state) rows frame message) refl
       where
-        go : (f : Found) → frameCause (receiverIn state) rows frame message ≡ f
+        go : (f : Answer) → frameCause (receiverIn state) rows frame message ≡ f
             → reportLeft state (heardOf (receiverIn state) rows frame message) ≡ heardBytes state rows frame message
-        go nothing e =
-            rw (uncaused-rest receiverEnd state none, e, heardBytes, heardOf, e, heardOf) (moved-left (1 ∷ drop 14 frame))
-        go (cause c) e = rw (uncaused-rest receiverEnd state none, e, heardBytes, heardOf)
+        go answer.Accepted e =
+            rw (heard-cause state rows message frame, none, e, heardBytes, heardOf, e, heardOf) (moved-left (1 ∷ drop 14 frame))
+        go (answer.Refused c) e = rw (heard-cause state rows message frame, none, e, heardBytes, heardOf)
 
-  pub lost-caused : (c : Cause) → stateCause receiverEnd state nothing ≡ cause c → unreported c ≡ lostBytes state rows message
-  unfolding lostBytesCause lostBytes
-  lost-caused c e = rw (caused-rest receiverEnd state c e (lossCause (receiverIn state) rows message), lostBytes)
+  pub lost-caused : (c : Cause) → stateCause receiverEnd state ≡ answer.Refused c → unreported c ≡ lostBytes state rows message
+  unfolding lostBytes
+  lost-caused c e = rw (lost-cause state rows message, e, lostBytes)
 
-  pub lost-uncaused : stateCause receiverEnd state nothing ≡ nothing
+  pub lost-uncaused : stateCause receiverEnd state ≡ answer.Accepted
       → reportLeft state (lossOf (receiverIn state) rows message) ≡ lostBytes state rows message
-  unfolding lossOf lostBytesCause lostBytes
+  unfolding lossOf lostBytes
   lost-uncaused none = go (lossCause (receiverIn state) rows message) refl
     where
-      go : (f : Found) → lossCause (receiverIn state) rows message ≡ f
+      go : (f : Answer) → lossCause (receiverIn state) rows message ≡ f
           → reportLeft state (lossOf (receiverIn state) rows message) ≡ lostBytes state rows message
-      go nothing e = rw (uncaused-rest receiverEnd state none, e, lostBytes, lossOf, e, lossOf) (moved-left _)
-      go (cause c) e = rw (uncaused-rest receiverEnd state none, e, lostBytes, lossOf)
+      go answer.Accepted e = rw (lost-cause state rows message, none, e, lostBytes, lossOf, e, lossOf) (moved-left _)
+      go (answer.Refused c) e = rw (lost-cause state rows message, none, e, lostBytes, lossOf)

@@ -6,7 +6,8 @@ use Prim.Native.Nat.{ℕ}
 use Rattle.code.specs.declared.settings.Settings.{Settings}
 use Rattle.code.specs.Settings.{accepted}
 use Rattle.protocol.specs.Lengths.{senderLen, receiverLen}
-use Rattle.protocol.specs.Causes.{nothing, cause, numberOf}
+use Rattle.protocol.specs.declared.Answer.the-variants as answer
+use Rattle.protocol.specs.Causes.{numberOf}
 use Rattle.protocol.specs.Calls.{OpenedSender, OpenedReceiver, Sent, Reported, openSenderOf, sendOf, openReceiverOf, heardOf, lossOf}
 use Rattle.layout.specs.State.{senderEnd, receiverEnd, stateBytes, settingsAt, senderIn, receiverIn}
 use Rattle.protocol.specs.Numbers.{answerNumber, replyNumber}
@@ -43,8 +44,8 @@ unfoldable pub openSenderBytes : List ℕ → List ℕ → List ℕ → Opening
 openSenderBytes settings state rows =
     let s : Settings = settingsOf settings in
     elim (openBytesCause s (senderLen s) state rows) [
-      | cause c ↦ record { reply = numberOf c; state = state; rows = rows }
-      | nothing ↦ openedSender (openSenderOf s rows)
+      | answer.Refused c ↦ record { reply = numberOf c; state = state; rows = rows }
+      | answer.Accepted ↦ openedSender (openSenderOf s rows)
     ]
 
 -- what an opening of a receiver leaves, by protocol's
@@ -60,8 +61,8 @@ unfoldable pub openReceiverBytes : List ℕ → List ℕ → List ℕ → Openin
 openReceiverBytes settings state rows =
     let s : Settings = settingsOf settings in
     elim (openBytesCause s (receiverLen s) state rows) [
-      | cause c ↦ record { reply = numberOf c; state = state; rows = rows }
-      | nothing ↦ openedReceiver (openReceiverOf s rows)
+      | answer.Refused c ↦ record { reply = numberOf c; state = state; rows = rows }
+      | answer.Accepted ↦ openedReceiver (openReceiverOf s rows)
     ]
 
 -- ---- sends
@@ -86,8 +87,8 @@ sentBytes r = record {
 unfoldable pub sendBytes : List ℕ → List ℕ → List ℕ → List ℕ → Sending
 sendBytes state rows message frame =
     elim (sendBytesCause state rows message frame) [
-      | cause c ↦ record { reply = numberOf c; state = state; rows = rows; frame = frame }
-      | nothing ↦ sentBytes (sendOf (senderIn state) rows message frame)
+      | answer.Refused c ↦ record { reply = numberOf c; state = state; rows = rows; frame = frame }
+      | answer.Accepted ↦ sentBytes (sendOf (senderIn state) rows message frame)
     ]
 
 -- ---- reports
@@ -112,14 +113,14 @@ reportedBytes r = record {
 unfoldable pub heardBytes : List ℕ → List ℕ → List ℕ → List ℕ → Reporting
 heardBytes state rows frame message =
     elim (heardBytesCause state rows frame message) [
-      | cause c ↦ record { reply = numberOf c; state = state; rows = rows; message = message }
-      | nothing ↦ reportedBytes (heardOf (receiverIn state) rows frame message)
+      | answer.Refused c ↦ record { reply = numberOf c; state = state; rows = rows; message = message }
+      | answer.Accepted ↦ reportedBytes (heardOf (receiverIn state) rows frame message)
     ]
 
 -- the report of a loss to the receiver that the state keeps
 unfoldable pub lostBytes : List ℕ → List ℕ → List ℕ → Reporting
 lostBytes state rows message =
     elim (lostBytesCause state rows message) [
-      | cause c ↦ record { reply = numberOf c; state = state; rows = rows; message = message }
-      | nothing ↦ reportedBytes (lossOf (receiverIn state) rows message)
+      | answer.Refused c ↦ record { reply = numberOf c; state = state; rows = rows; message = message }
+      | answer.Accepted ↦ reportedBytes (lossOf (receiverIn state) rows message)
     ]

@@ -2,50 +2,16 @@
 -- that holds, and then it changes no lent byte.
 use mathlib.Core.Path.{_≡_}
 use mathlib.Core.Logic.{_↔_}
-use mathlib.Core.Bool.{not, _&&_}
-use mathlib.Core.List.{List, [], _∷_}
+use mathlib.Core.List.{List}
 use Prim.Native.Nat.{ℕ}
-use lib.Dec.{eqb}
-use lib.ListN.{length}
 use Rattle.code.specs.declared.settings.Settings.{Settings}
-use Rattle.code.specs.Settings.{accepted}
 use Rattle.protocol.specs.declared.Cause.{Cause}
-use Rattle.protocol.specs.declared.Cause.the-variants.{BadSettings, BadLength}
 use Rattle.protocol.specs.Lengths.{senderLen, receiverLen}
-use Rattle.protocol.specs.Causes.{numberOf, agree, Row, sendTable, lossTable, frameTable}
+use Rattle.protocol.specs.Causes.{numberOf, Row}
 use Rattle.protocol.specs.Refusals.{First}
-use Rattle.layout.specs.State.{senderEnd, receiverEnd, stateLen, markOf, senderIn, receiverIn}
+use Rattle.tob.specs.Causes.{openBytesTable, sendBytesTable, heardBytesTable, lostBytesTable}
 use Rattle.tob.specs.Calls.{settingsOf, Opening, openSenderBytes, openReceiverBytes, Sending, sendBytes}
 use Rattle.tob.specs.Calls.{Reporting, heardBytes, lostBytes}
-
--- ---- the tables
-
--- an opening meets 1, and then 2 for the state or the rows
-abbrev pub openBytesTable : Settings → ℕ → List ℕ → List ℕ → List Row
-openBytesTable s size state rows =
-    record { holds = not (accepted s); why = BadSettings }
-    ∷ record { holds = not (eqb (length state) stateLen && eqb (length rows) size); why = BadLength }
-    ∷ []
-
--- the causes that a state's bytes give, and then the rest: at another length no settings can be read, and with another mark it holds no
--- settings of this end
-abbrev pub stateTable : ℕ → List ℕ → List Row → List Row
-stateTable end state rest =
-    record { holds = not (eqb (length state) stateLen); why = BadLength }
-    ∷ record { holds = not (agree 4 state (markOf end)); why = BadSettings }
-    ∷ rest
-
--- a send, a frame report and a loss report meet these, and then the causes of document 01's call on what the bytes keep
-abbrev pub sendBytesTable : List ℕ → List ℕ → List ℕ → List ℕ → List Row
-sendBytesTable state rows message frame = stateTable senderEnd state (sendTable (senderIn state) rows message frame)
-
-abbrev pub heardBytesTable : List ℕ → List ℕ → List ℕ → List ℕ → List Row
-heardBytesTable state rows frame message = stateTable receiverEnd state (frameTable (receiverIn state) rows frame message)
-
-abbrev pub lostBytesTable : List ℕ → List ℕ → List ℕ → List Row
-lostBytesTable state rows message = stateTable receiverEnd state (lossTable (receiverIn state) rows message)
-
--- ---- the demand
 
 -- a call with this table that gave this number: it is a cause's number exactly if that cause is the first that holds, and then all stays
 pub record RefusesBytes (table : List Row) (number : ℕ) (Stays : Type 0) : Type 0 where

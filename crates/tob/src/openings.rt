@@ -10,13 +10,12 @@ use protocol::Answer;
 use protocol::Cause;
 ghost use mathlib.Core.Path.{_≡_};
 ghost use Rattle.protocol.specs.Causes.{openCause};
-ghost use Rattle.causes.specs.Findings.{foundIn};
 ghost use Rattle.layout.specs.State.{stateLen};
 ghost use Rattle.tob.specs.Calls.{openSenderBytes, openReceiverBytes};
 
 // The first cause that the settings and the lent state give, before those that the rows give.
 fn opening_cause(s: Settings, state: &[u8]) -> Answer
-    ensures { λ r. ⌜ foundIn r ≡ openCause s stateLen (now (state .entry)) ⌝ }
+    ensures { λ r. ⌜ r ≡ openCause s stateLen (now (state .entry)) ⌝ }
 {
     if !s.accepted() {
         return Answer::Refused(Cause::BadSettings);

@@ -10,11 +10,11 @@ use Rattle.code.specs.declared.settings.Settings.{Settings}
 use Rattle.protocol.specs.declared.Receiver.{Receiver}
 use Rattle.protocol.specs.declared.Reply.{Reply}
 use Rattle.protocol.specs.Calls.{Reported}
-use Rattle.protocol.specs.Causes.{nothing, frameCause}
+use Rattle.protocol.specs.declared.Answer.the-variants as answer
+use Rattle.protocol.specs.Causes.{frameCause}
 use Rattle.protocol.specs.Lengths.{frameLen, rowLen}
 use Rattle.protocol.proofs.ReportCauses.{FrameOpen, frame-open}
 use Rattle.protocol.proofs.ReportSteps.{heard-stays, heard-moves}
-use Rattle.causes.specs.Findings.{foundIn}
 use Rattle.ring.proofs.RowEnds.{kept}
 use Rattle.receiver.proofs.Outcomes.{moved-by}
 use Rattle.receiver.proofs.frame_report.heard.Statement.{statement}
@@ -35,7 +35,7 @@ returns c =
     let a = start at .args in
     ap₂ (outcome (now (a .rows)) (now (a .message))) (c .refused .ensures .0) (c .refused .ensures .1)
     ∙ sym (heard-stays (a .x) (now (a .rows)) (now (a .frame)) (now (a .message)) _
-    (sym (at .frame-cause .ensures) ∙ ap foundIn (at-found .found .given .1)))
+    (sym (at .frame-cause .ensures) ∙ at-found .found .given .1))
 
 -- ---- an accepted report
 
@@ -43,8 +43,8 @@ abbrev begun : tie.After-enum-told → tie.Start
 begun c = start (c .before .before)
 
 uncaused : (c : tie.After-enum-told)
-    → let a = begun c .args in frameCause (a .x) (now (a .rows)) (now (a .frame)) (now (a .message)) ≡ nothing
-uncaused c = sym (c .before .before .frame-cause .ensures) ∙ ap foundIn (c .enum-told .given .1)
+    → let a = begun c .args in frameCause (a .x) (now (a .rows)) (now (a .frame)) (now (a .message)) ≡ answer.Accepted
+uncaused c = sym (c .before .before .frame-cause .ensures) ∙ c .enum-told .given .1
 
 clear : (c : tie.After-enum-told) → let a = begun c .args in FrameOpen (a .x) (now (a .rows)) (now (a .message)) (now (a .frame))
 clear c =

@@ -8,11 +8,11 @@ use lib.ListN.{length, replicate, length-replicate}
 use Rattle.protocol.specs.declared.Receiver.{Receiver}
 use Rattle.protocol.specs.declared.Reply.{Reply}
 use Rattle.protocol.specs.Calls.{Reported}
-use Rattle.protocol.specs.Causes.{nothing, lossCause}
+use Rattle.protocol.specs.declared.Answer.the-variants as answer
+use Rattle.protocol.specs.Causes.{lossCause}
 use Rattle.protocol.specs.Lengths.{rowLen}
 use Rattle.protocol.proofs.ReportCauses.{LossOpen, loss-open}
 use Rattle.protocol.proofs.ReportSteps.{loss-stays, loss-moves}
-use Rattle.causes.specs.Findings.{foundIn}
 use Rattle.ring.proofs.RowEnds.{kept}
 use Rattle.receiver.proofs.Outcomes.{moved-by}
 use Rattle.receiver.proofs.loss_report.loss.Statement.{statement}
@@ -33,15 +33,15 @@ returns c =
     let a = start at .args in
     ap₂ (outcome (now (a .rows)) (now (a .message))) (c .refused .ensures .0) (c .refused .ensures .1)
     ∙ sym (loss-stays (a .x) (now (a .rows)) (now (a .message)) _
-    (sym (at .loss-cause .ensures) ∙ ap foundIn (at-found .found .given .1)))
+    (sym (at .loss-cause .ensures) ∙ at-found .found .given .1))
 
 -- ---- an accepted report
 
 abbrev begun : tie.After-enum-told → tie.Start
 begun c = start (c .before .before)
 
-uncaused : (c : tie.After-enum-told) → let a = begun c .args in lossCause (a .x) (now (a .rows)) (now (a .message)) ≡ nothing
-uncaused c = sym (c .before .before .loss-cause .ensures) ∙ ap foundIn (c .enum-told .given .1)
+uncaused : (c : tie.After-enum-told) → let a = begun c .args in lossCause (a .x) (now (a .rows)) (now (a .message)) ≡ answer.Accepted
+uncaused c = sym (c .before .before .loss-cause .ensures) ∙ c .enum-told .given .1
 
 clear : (c : tie.After-enum-told) → let a = begun c .args in LossOpen (a .x) (now (a .rows)) (now (a .message))
 clear c = let a = begun c .args in loss-open (a .x) (now (a .rows)) (now (a .message)) (uncaused c)

@@ -12,9 +12,9 @@ use Rattle.protocol.specs.declared.Sender.{Sender}
 use Rattle.protocol.specs.declared.Answer.{Answer}
 use Rattle.protocol.specs.declared.Answer.the-variants as answer
 use Rattle.protocol.specs.Calls.{Sent}
-use Rattle.protocol.specs.Causes.{nothing, sendCause}
+use Rattle.protocol.specs.Causes.{sendCause}
 use Rattle.protocol.specs.Lengths.{lastSlot}
-use Rattle.protocol.proofs.Sending.{Sendable, nothing-send}
+use Rattle.protocol.proofs.Sending.{Sendable, clear-send}
 use Rattle.sender.proofs.Outcomes.{lengths, send-settings, send-lengths, send-late, send-none, send-taken}
 use Rattle.sender.proofs.calls.send.Statement.{statement}
 use Rattle.sender.proofs.calls.send.Tie as tie
@@ -66,7 +66,7 @@ returns-3 c =
 
 none : (c : tie.Else3)
     → let a = start (c .before .before .before .before .before) .args in
-    sendCause (a .x) (now (a .rows)) (now (a .message)) (now (a .frame)) ≡ nothing
+    sendCause (a .x) (now (a .rows)) (now (a .message)) (now (a .frame)) ≡ answer.Accepted
 unfolding lastSlot
 none c =
     let two = c .before .before .before in
@@ -78,7 +78,7 @@ sendable : (c : tie.Else3)
     Sendable (a .x) (now (a .rows)) (now (a .message)) (now (a .frame))
 sendable c =
     let a = start (c .before .before .before .before .before) .args in
-    nothing-send (a .x) (now (a .rows)) (now (a .message)) (now (a .frame)) (none c)
+    clear-send (a .x) (now (a .rows)) (now (a .message)) (now (a .frame)) (none c)
 
 write-frame-requires : tie.Need-write-frame-requires
 write-frame-requires c κs =

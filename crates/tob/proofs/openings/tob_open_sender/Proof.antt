@@ -5,9 +5,9 @@ use mathlib.Core.List.{List}
 use Prim.Native.Nat.{ℕ}
 use denote.Ref.{now}
 use Rattle.code.specs.declared.settings.Settings.{Settings}
-use Rattle.protocol.specs.Causes.{nothing, openCause}
+use Rattle.protocol.specs.declared.Answer.the-variants as answer
+use Rattle.protocol.specs.Causes.{openCause}
 use Rattle.protocol.specs.Calls.{openSenderOf}
-use Rattle.causes.specs.Findings.{foundIn}
 use Rattle.layout.specs.State.{stateLen, settingsAt}
 use Rattle.tob.specs.Calls.{Opening}
 use Rattle.tob.proofs.Outcomes.{opened-length, senderLeft, sender-caused, sender-uncaused}
@@ -22,7 +22,7 @@ start c = c .before .before .before .before .before .before
 
 -- the cause that was looked for
 looked : (c : tie.After-opening-cause)
-    → let a = start c .args in foundIn (c .opening-cause .result) ≡ openCause (settingsAt 0 (now (a .settings))) stateLen (now (a .state))
+    → let a = start c .args in c .opening-cause .result ≡ openCause (settingsAt 0 (now (a .settings))) stateLen (now (a .state))
 looked c =
     c .opening-cause .ensures
     ∙ ap (λ (s : Settings). openCause s stateLen (now (start c .args .state))) (c .before .before .settings-at .ensures)
@@ -33,7 +33,7 @@ returns c =
     let at = at-found .before .before in
     let a = start at .args in
     ap (λ (n : ℕ). outcome (now (a .rows)) n (now (a .state))) (c .number-of .ensures)
-    ∙ sender-caused (now (a .settings)) (now (a .state)) (now (a .rows)) _ (sym (looked at) ∙ ap foundIn (at-found .found .given .1))
+    ∙ sender-caused (now (a .settings)) (now (a .state)) (now (a .rows)) _ (sym (looked at) ∙ at-found .found .given .1)
 
 -- ---- an opening that may be accepted
 
@@ -41,8 +41,8 @@ abbrev begun : tie.After-enum-told → tie.Start
 begun c = start (c .before .before)
 
 uncaused : (c : tie.After-enum-told)
-    → let a = begun c .args in openCause (settingsAt 0 (now (a .settings))) stateLen (now (a .state)) ≡ nothing
-uncaused c = sym (looked (c .before .before)) ∙ ap foundIn (c .enum-told .given .1)
+    → let a = begun c .args in openCause (settingsAt 0 (now (a .settings))) stateLen (now (a .state)) ≡ answer.Accepted
+uncaused c = sym (looked (c .before .before)) ∙ c .enum-told .given .1
 
 -- the place after the test, from the one before the state is written
 abbrev opened : tie.After-x → tie.After-open

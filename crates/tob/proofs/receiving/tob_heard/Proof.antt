@@ -7,9 +7,8 @@ use Prim.Native.Nat.{ℕ}
 use denote.Ref.{now}
 use lib.ListN.{length}
 use Rattle.protocol.specs.declared.Receiver.{Receiver}
-use Rattle.protocol.specs.Causes.{nothing}
+use Rattle.protocol.specs.declared.Answer.the-variants as answer
 use Rattle.protocol.specs.Calls.{heardOf}
-use Rattle.causes.specs.Findings.{foundIn}
 use Rattle.layout.specs.State.{receiverEnd, stateLen, stateCause}
 use Rattle.layout.proofs.KeptStates.{uncaused-length}
 use Rattle.tob.specs.Calls.{Reporting}
@@ -29,15 +28,15 @@ returns c =
     let at = at-found .before .before in
     let a = start at .args in
     ap (λ (n : ℕ). outcome (now (a .rows)) (now (a .message)) n (now (a .state))) (c .number-of .ensures)
-    ∙ heard-caused (now (a .state)) (now (a .rows)) (now (a .message)) (now (a .frame)) _ (sym (at .state-cause .ensures) ∙ ap foundIn (at-found .found .given .1))
+    ∙ heard-caused (now (a .state)) (now (a .rows)) (now (a .message)) (now (a .frame)) _ (sym (at .state-cause .ensures) ∙ at-found .found .given .1)
 
 -- ---- a call that may be accepted
 
 abbrev begun : tie.After-enum-told → tie.Start
 begun c = start (c .before .before)
 
-uncaused : (c : tie.After-enum-told) → stateCause receiverEnd (now (begun c .args .state)) nothing ≡ nothing
-uncaused c = sym (c .before .before .state-cause .ensures) ∙ ap foundIn (c .enum-told .given .1)
+uncaused : (c : tie.After-enum-told) → stateCause receiverEnd (now (begun c .args .state)) ≡ answer.Accepted
+uncaused c = sym (c .before .before .state-cause .ensures) ∙ c .enum-told .given .1
 
 sized : (c : tie.After-enum-told) → length (now (begun c .args .state)) ≡ stateLen
 sized c = uncaused-length receiverEnd (now (begun c .args .state)) (uncaused c)
