@@ -3,7 +3,6 @@ mod numbers;
 mod outcomes;
 mod state;
 
-pub use numbers::number_of;
 pub use outcomes::save_answer;
 pub use outcomes::save_reply;
 pub use state::RECEIVER_END;

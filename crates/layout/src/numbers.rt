@@ -1,26 +1,11 @@
 // The number of each reply, and whether the call was taken.
 use protocol::Answer;
-use protocol::Cause;
 use protocol::Reply;
+use protocol::number_of;
 ghost use mathlib.Core.Path.{_≡_};
-ghost use Rattle.protocol.specs.Causes.{numberOf};
 ghost use Rattle.protocol.specs.Claim.{accepts};
 ghost use Rattle.protocol.specs.Numbers.{answerNumber, replyNumber};
 ghost use Rattle.layout.specs.Numbers.{taken};
-
-// Document 01's number for a cause.
-pub fn number_of(c: Cause) -> u32
-    ensures { λ r. ⌜ r ≡ numberOf c ⌝ }
-{
-    match c {
-        Cause::BadSettings => 1,
-        Cause::BadLength => 2,
-        Cause::PastLastSlot => 3,
-        Cause::OtherMark => 4,
-        Cause::OtherSettings => 5,
-        Cause::OtherSlot => 6,
-    }
-}
 
 // The number of what an opening or a send answers.
 pub(crate) fn answer_number(answer: Answer) -> u32

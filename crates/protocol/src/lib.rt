@@ -2,6 +2,7 @@
 // definitions, and proofs/ has their theorems.
 mod header;
 mod lengths;
+mod numbers;
 mod slices;
 mod states;
 
@@ -15,6 +16,7 @@ pub use lengths::receiver_len;
 pub use lengths::row_count;
 pub use lengths::row_len;
 pub use lengths::sender_len;
+pub use numbers::number_of;
 pub use slices::clear;
 pub use slices::write_at;
 
@@ -38,7 +40,7 @@ pub struct Receiver {
     pub due: u32,
 }
 
-// Why a call says no, in the order of checking; `numberOf` of specs/Causes.antt has the numbers.
+// Why a call says no, in the order of checking; `number_of` gives the numbers.
 pub enum Cause {
     BadSettings,
     BadLength,

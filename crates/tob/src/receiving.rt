@@ -1,10 +1,10 @@
 // The receiver's calls: the reports of frames and of losses.
 use layout::RECEIVER_END;
-use layout::number_of;
 use layout::receiver_in;
 use layout::save_reply;
 use layout::state_cause;
 use protocol::Answer;
+use protocol::number_of;
 ghost use mathlib.Core.Path.{_≡_};
 ghost use Rattle.tob.specs.Calls.{heardBytes, lostBytes};
 

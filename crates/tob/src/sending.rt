@@ -1,10 +1,10 @@
 // The sender's call.
 use layout::SENDER_END;
-use layout::number_of;
 use layout::save_answer;
 use layout::sender_in;
 use layout::state_cause;
 use protocol::Answer;
+use protocol::number_of;
 ghost use mathlib.Core.Path.{_≡_};
 ghost use Rattle.tob.specs.Calls.{sendBytes};
 

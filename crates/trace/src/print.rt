@@ -1,8 +1,8 @@
 // The parts of a line. Each but the first has a space before it. No contract can say what is printed, and nothing lent is changed.
 use code::Settings;
 use protocol::Answer;
-use protocol::Cause;
 use protocol::Reply;
+use protocol::number_of;
 ghost use Prim.Native.Nat.{_≤_, _<_};
 ghost use lib.ListN.{length};
 
@@ -22,18 +22,6 @@ fn state(s: Settings, due: u32) {
     number(due as u64);
 }
 
-// The number of a cause.
-fn number_of(c: Cause) -> u64 {
-    match c {
-        Cause::BadSettings => 1,
-        Cause::BadLength => 2,
-        Cause::PastLastSlot => 3,
-        Cause::OtherMark => 4,
-        Cause::OtherSettings => 5,
-        Cause::OtherSlot => 6,
-    }
-}
-
 // The outcome of an opening or a send.
 fn answer(a: Answer) {
     match a {
@@ -41,7 +29,7 @@ fn answer(a: Answer) {
             io::write_all(1, b" ok");
         }
         Answer::Refused(c) => {
-            number(number_of(c));
+            number(number_of(c) as u64);
         }
     }
 }
@@ -50,7 +38,7 @@ fn answer(a: Answer) {
 fn reply(a: Reply) {
     match a {
         Reply::Refused(c) => {
-            number(number_of(c));
+            number(number_of(c) as u64);
         }
         Reply::NoneYet => {
             io::write_all(1, b" none");
