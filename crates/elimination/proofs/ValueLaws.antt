@@ -8,7 +8,7 @@ use lib.Dec.{T, eqb, eqb→eq, eqb-refl}
 use lib.ListN.{getD}
 use Rattle.galois.proofs.Cases.{and-left, and-right, both-pass}
 use Rattle.code.specs.declared.settings.Settings.{Settings}
-use Rattle.code.specs.Settings.{kOf}
+use Rattle.code.specs.Settings.{kOf, nOf}
 use Rattle.galois.specs.Table.{table}
 use Rattle.code.specs.Word.{wordAt}
 use Rattle.code.specs.Fitting.{Arrived, fits}
@@ -148,3 +148,14 @@ module _ (s : Settings) (a : Arrived) where
   whole-said i b e =
       let one = whole-one (values s a i) b e in
       (in-values i b (one .0), λ v h f. one .1 (wordAt s v i) (values-in i v h f))
+
+-- ---- more that arrived
+
+-- what arrived in a arrived in b too, with the same bytes
+abbrev pub Part : Settings → Arrived → Arrived → Type 0
+Part s a b = (p : ℕ) → p < nOf s → T (a .known p) → T (b .known p) × (a .byte p ≡ b .byte p)
+
+-- so the fitting words only get fewer
+pub fits-part : (s : Settings) (a b : Arrived) → Part s a b → (u : ℕ → ℕ) → T (fits s b u) → T (fits s a u)
+fits-part s a b part u f =
+    fits-all s a u (λ p hp known. let (still, same) = part p hp known in fits-at s b u p hp f still ∙ sym same)

@@ -68,16 +68,12 @@ module _ {s : Settings} {d : ℕ} {told : List ReportMade} {t i p : ℕ} where
   flag-came v (Became.heard f late h) one =
       subst⁻¹ (Came s told t i v p) (heard-byte f (p * s .lanes + v)) (Came.heard f late h)
 
--- ---- what the rows say of message t, while it can be told, of the codeword of lane v that starts at slot t - i
+-- ---- what the rows say, while message t can be told, of the codeword of lane v that starts at slot t - i
 
-module _ {s : Settings} {d : ℕ} {told : List ReportMade} {rows : List ℕ} {due : ℕ} (c : Reached s (rowBefore s) d told rows due)
-    (t : ℕ) (to : due ≤ t + delayOf s + 1) (i p v : ℕ) (hi : i < kOf s) where
-  -- the row of position p
-  abbrev row : List ℕ
-  row = slotRow s (rowBefore s) d told t i p
-
-  -- the position is known exactly if its slot was reported and its row says received
-  known-flag : T (arrived s rows due t i v .known p) ↔ ((t + p < due + i) × (getD row 0 0 ≡ 1))
+module _ {s : Settings} {first : ℕ → List ℕ} {d : ℕ} {told : List ReportMade} {rows : List ℕ} {due : ℕ}
+    (c : Reached s first d told rows due) (t : ℕ) (to : due ≤ t + delayOf s + 1) (i p v : ℕ) (hi : i < kOf s) where
+  -- a position is known exactly if its slot was reported and its row says received
+  pub known-flag : T (arrived s rows due t i v .known p) ↔ ((t + p < due + i) × (getD (slotRow s first d told t i p) 0 0 ≡ 1))
   unfolding arrived reportedAt
   known-flag =
       let one : Bool = eqb (getD rows (rowAt s t i p) 0) 1 in (
@@ -91,9 +87,21 @@ module _ {s : Settings} {d : ℕ} {told : List ReportMade} {rows : List ℕ} {du
             (rw (flag-says c t i p hi to now ∙ flag) (eqb-refl 1)),
       )
 
+  -- and its byte stands in that row
+  pub byte-says : p < nOf s → v < s .lanes → t + p < due + i
+      → arrived s rows due t i v .byte p ≡ getD (slotRow s first d told t i p) (1 + (p * s .lanes + v)) 0
+  unfolding arrived
+  byte-says hp hv now = row-says c t i p hi to now (1 + (p * s .lanes + v)) (in-row s p v hp hv)
+
+module _ {s : Settings} {d : ℕ} {told : List ReportMade} {rows : List ℕ} {due : ℕ} (c : Reached s (rowBefore s) d told rows due)
+    (t : ℕ) (to : due ≤ t + delayOf s + 1) (i p v : ℕ) (hi : i < kOf s) where
+  -- the row of position p
+  abbrev row : List ℕ
+  row = slotRow s (rowBefore s) d told t i p
+
   -- a position whose slot was reported and not lost is known
   pub known-if : t + p < due + i → lostPosition (lostSince d told) t i p ≡ false → T (arrived s rows due t i v .known p)
-  known-if now kept = known-flag .1 (now, kept-flag (became c t i p hi now) kept)
+  known-if now kept = known-flag c t to i p v hi .1 (now, kept-flag (became c t i p hi now) kept)
 
   -- what came stands in its row
   came-row : (b : ℕ) → Came s told t i v p b → (getD row 0 0 ≡ 1) × (getD row (1 + (p * s .lanes + v)) 0 ≡ b)
@@ -107,13 +115,11 @@ module _ {s : Settings} {d : ℕ} {told : List ReportMade} {rows : List ℕ} {du
   -- a position is known with a byte exactly if its slot was reported and brought it
   pub known-came : p < nOf s → v < s .lanes → (b : ℕ)
       → (T (arrived s rows due t i v .known p) × (arrived s rows due t i v .byte p ≡ b)) ↔ ((t + p < due + i) × Came s told t i v p b)
-  unfolding arrived
-  known-came hp hv b =
-      let q : ℕ = 1 + (p * s .lanes + v) in
-      let byte : t + p < due + i → getD rows (rowAt s t i p + q) 0 ≡ getD row q 0
-      = λ now. row-says c t i p hi to now q (in-row s p v hp hv) in (
-        λ (k, e).
-            let (now, flag) = known-flag .0 k in
-            (now, subst (Came s told t i v p) (sym (byte now) ∙ e) (flag-came v (became c t i p hi now) flag)),
-        λ (now, from). let (flag, e) = came-row b from in (known-flag .1 (now, flag), byte now ∙ e),
-      )
+  known-came hp hv b = (
+    λ (k, e).
+        let (now, flag) = known-flag c t to i p v hi .0 k in
+        (now, subst (Came s told t i v p) (sym (byte-says c t to i p v hi hp hv now) ∙ e) (flag-came v (became c t i p hi now) flag)),
+    λ (now, from).
+        let (flag, e) = came-row b from in
+        (known-flag c t to i p v hi .1 (now, flag), byte-says c t to i p v hi hp hv now ∙ e),
+  )

@@ -27,6 +27,7 @@ pub mod ReceivedRows
 pub mod SlotRows
 pub mod Arrivals
 pub mod ReportMeaning
+pub mod EarlyVerdict
 pub mod Recovery
 pub mod Demand
 pub mod Runs

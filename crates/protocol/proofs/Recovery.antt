@@ -2,12 +2,10 @@
 use mathlib.Core.Path.{_≡_, sym, _∙_, subst}
 use mathlib.Core.Bool.{Bool, not}
 use mathlib.Core.List.{List}
-use Prim.Native.Nat.{ℕ, _+_, _-_, _*_, _/_, _%_, _<_}
-use native.Mathlib.Nat.{mod-lt, div-add-mod', div-lt-iff-lt-mul}
+use Prim.Native.Nat.{ℕ, _+_, _-_, _*_, _<_}
 use native.Mathlib.Omega.{arith}
 use lib.Dec.{T}
 use lib.ListN.{length, getD}
-use lib.Seq.{ext-getD}
 use Rattle.code.specs.declared.settings.Settings.{Settings}
 use Rattle.code.specs.Settings.{delayOf, kOf, nOf}
 use Rattle.code.specs.Word.{wordAt, symbol}
@@ -22,7 +20,7 @@ use Rattle.protocol.specs.Codewords.{source}
 use Rattle.protocol.specs.Verdict.{arrived, verdict, bufferOf}
 use Rattle.protocol.specs.Meaning.{Fitting, Share}
 use Rattle.protocol.proofs.TrueWords.{source-below, trueMultiplier, true-word, symbol-own}
-use Rattle.protocol.proofs.VerdictMeaning.{shares-whole, whole-bytes, buffer-length}
+use Rattle.protocol.proofs.VerdictMeaning.{shares-whole, whole-bytes, whole-list}
 
 -- what the rows say of message t's codewords, of the slots below due, is the truth about these messages and losses: every position
 -- whose slot was not lost is known, and a known position has the true word's symbol
@@ -68,20 +66,12 @@ module _ (s : Settings) (h : Shape s) (rows : List ℕ) (due t : ℕ) (messages 
   recovered fair all =
       shares-whole s rows due t (λ i v. getD (messages t) (i * s .lanes + v) 0) (λ i v hi hv. shares i v hi hv fair all)
 
-  -- and whenever it is, the buffer holds the message, byte by byte
-  buffer-byte : verdict s rows due t ≡ reply.Whole → (i v : ℕ) → i < kOf s → v < s .lanes
-      → getD (bufferOf s rows due t (verdict s rows due t)) (i * s .lanes + v) 0 ≡ getD (messages t) (i * s .lanes + v) 0
-  buffer-byte whole i v hi hv =
-      sym (whole-bytes s rows due t whole i v hi hv .all-have (truly i v hi hv) (truly-fits i v hi hv)) ∙ truly-own i v hi hv
-
+  -- and whenever it is, the buffer holds the message
   pub whole-message : verdict s rows due t ≡ reply.Whole → length (messages t) ≡ messageLen s
       → bufferOf s rows due t (verdict s rows due t) ≡ messages t
-  unfolding messageLen
   whole-message whole full =
-      let length-buffer = buffer-length s rows due t (verdict s rows due t) in
-      ext-getD 0 (bufferOf s rows due t (verdict s rows due t)) (messages t) (length-buffer ∙ sym full)
-      (λ q hq.
-      let inside : q < kOf s * s .lanes = subst (λ (m : ℕ). q < m) length-buffer hq in
-      let place : q / s .lanes * s .lanes + q % s .lanes ≡ q = div-add-mod' q (s .lanes) in
-      subst (λ (m : ℕ). getD (bufferOf s rows due t (verdict s rows due t)) m 0 ≡ getD (messages t) m 0) place
-      (buffer-byte whole (q / s .lanes) (q % s .lanes) (div-lt-iff-lt-mul (h .lanes-positive) .1 inside) (mod-lt q (h .lanes-positive))))
+      whole-list s rows due t (h .lanes-positive) (messages t) full
+      (λ i v hi hv.
+      let x = whole-bytes s rows due t whole i v hi hv in
+      subst (Share s (Fitting s (arrived s rows due t i v)) i)
+      (sym (x .all-have (truly i v hi hv) (truly-fits i v hi hv)) ∙ truly-own i v hi hv) x)

@@ -1,13 +1,15 @@
 -- What the receiver's verdict on message t means, in the words of specs/Meaning.antt.
-use mathlib.Core.Path.{_≡_, refl, sym, ap, ap₂, _∙_, subst⁻¹}
+use mathlib.Core.Path.{_≡_, refl, sym, ap, ap₂, _∙_, subst, subst⁻¹}
 use mathlib.Core.Bool.{Bool, true, false, cond}
 use mathlib.Core.Logic.{_↔_}
 use mathlib.Core.List.{List}
 use Prim.Native.Nat.{ℕ, _+_, _*_, _/_, _%_, _<_}
+use native.Mathlib.Nat.{mod-lt, div-add-mod', div-lt-iff-lt-mul}
 use native.Mathlib.Omega.{arith}
 use lib.Dec.{T}
 use lib.Arith.{digits-lt, digits-div, digits-mod}
 use lib.ListN.{getD, length, replicate, length-replicate}
+use lib.Seq.{ext-getD}
 use Rattle.galois.specs.Bounded.{any}
 use Rattle.galois.proofs.Cases.{any-at, some-any}
 use Rattle.code.specs.declared.settings.Settings.{Settings}
@@ -229,3 +231,20 @@ module _ (s : Settings) (rows : List ℕ) (due t : ℕ) where
   buffer-length reply.Whole = length-table (messageLen s) _
   buffer-length reply.Lost = length-replicate (messageLen s) 0
   buffer-length reply.Clash = length-replicate (messageLen s) 0
+
+  -- and where the fitting words share the bytes of a list of that length, it is that list
+  pub whole-list : 0 < s .lanes → (l : List ℕ) → length l ≡ messageLen s → AllShare s what (λ i v. getD l (i * s .lanes + v) 0)
+      → bufferOf s rows due t (verdict s rows due t) ≡ l
+  unfolding messageLen
+  whole-list some l full all =
+      let out : List ℕ = bufferOf s rows due t (verdict s rows due t) in
+      let sized : length out ≡ messageLen s = buffer-length (verdict s rows due t) in
+      ext-getD 0 out l (sized ∙ sym full)
+      (λ q hq.
+      let i : ℕ = q / s .lanes in
+      let v : ℕ = q % s .lanes in
+      let hi : i < kOf s = div-lt-iff-lt-mul some .1 (subst (λ (m : ℕ). q < m) sized hq) in
+      let x = all i v hi (mod-lt q some) in
+      let y = whole-bytes (shares-whole (λ i v. getD l (i * s .lanes + v) 0) all) i v hi (mod-lt q some) in
+      subst (λ (m : ℕ). getD out m 0 ≡ getD l m 0) (div-add-mod' q (s .lanes))
+      (sym (y .all-have (x .word) (x .is-such)) ∙ x .all-have (x .word) (x .is-such)))
