@@ -29,8 +29,9 @@ use Rattle.protocol.specs.TwoLists.{Report, heard, missed, reportOf}
 use Rattle.protocol.proofs.QuickVerdict.{quickSymbol, verdictBy, bufferBy, quickReply, quickMoved, quickReport}
 use Rattle.protocol.proofs.QuickVerdict.{small, smallFrames, quick-report}
 use Rattle.lines.specs.Text.{decimal, decimalUpTo, stopLine, lineOf}
-use Rattle.player.specs.Transcript.{settingsIn, recordingCause, Rest, refuses, slotIn, frameStop, andThen, skipped, played}
-use Rattle.player.specs.Transcript.{pieces, playedFrom, transcript}
+use Rattle.stops.specs.Stops.{settingsIn, recordingCause, slotIn, frameStop}
+use Rattle.steps.specs.Steps.{refuses}
+use Rattle.player.specs.Transcript.{Rest, andThen, skipped, played, pieces, playedFrom, transcript}
 
 -- ---- playing through elimination
 

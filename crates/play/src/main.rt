@@ -5,9 +5,9 @@ use code::Settings;
 use libc::STDERR_FILENO;
 use libc::STDIN_FILENO;
 use libc::STDOUT_FILENO;
-use player::Start;
 use protocol::message_len;
 use protocol::receiver_len;
+use stops::Start;
 ghost use mathlib.Core.Path.{_≡_};
 ghost use Prim.Native.Nat.{_+_, _*_, _≤_};
 ghost use lib.ListN.{length};
@@ -26,7 +26,7 @@ fn put(bytes: &[u8]) -> bool {
 fn play_steps(s: Settings, recording: &[u8], rows: &mut [u8], message: &mut [u8], out: &mut [u8])
     requires { ⌜ 18 + 2 * length (now message) ≤ length (now out) ⌝ }
 {
-    let mut p = player::begin(s, rows, message);
+    let mut p = steps::begin(s, rows, message);
     loop {
         let filled = player::fill(p, recording, rows, message, out);
         let end = filled.len;
@@ -44,7 +44,7 @@ fn play_steps(s: Settings, recording: &[u8], rows: &mut [u8], message: &mut [u8]
 fn play(recording: &[u8], rows: &mut [u8], message: &mut [u8], out: &mut [u8])
     requires { ⌜ (30750 ≤ length (now rows)) × (960 ≤ length (now message)) × (length (now out) ≡ 65536) ⌝ }
 {
-    match player::examine(recording) {
+    match stops::examine(recording) {
         Start::Empty => {}
         Start::Stop(c) => {
             let n = lines::write_stop(c, out);

@@ -10,9 +10,10 @@ use lib.Seq.{take-all, take-at, drop-at, drop-drop, length-take-le}
 use borrow.Rule.Slice.PartMut.{putMid}
 use Rattle.lines.specs.Text.{written}
 use Rattle.lines.specs.Lent.{longest}
-use Rattle.player.specs.declared.Player.{Player}
-use Rattle.player.specs.Steps.{Act, actOf}
-use Rattle.player.specs.Filling.{noAct, after, gathered, Outcome, printedOn, filledOf}
+use Rattle.steps.specs.declared.Player.{Player}
+use Rattle.steps.specs.Steps.{Act, actOf}
+use Rattle.steps.specs.Outcomes.{Outcome, printedOn}
+use Rattle.player.specs.Filling.{noAct, after, gathered, filledOf}
 use Rattle.player.proofs.Gathering.{gathered-none, gathered-last, gathered-more}
 
 -- a buffer that is as long as before has room for what was printed

@@ -16,9 +16,9 @@ use Rattle.protocol.specs.Causes.{lossCause, frameCause}
 use Rattle.protocol.specs.Calls.{movedOn, lossOf, heardOf}
 use Rattle.protocol.proofs.ReportCauses.{loss-open, frame-open}
 use Rattle.protocol.proofs.ReportSteps.{loss-moves, loss-stays, heard-moves, heard-stays}
-use Rattle.player.specs.declared.Player.{Player}
-use Rattle.player.specs.Steps.{endAct, stopAct, reportAct, actOf}
-use Rattle.player.proofs.Acts.{frameAt, every-act}
+use Rattle.steps.specs.declared.Player.{Player}
+use Rattle.steps.specs.Steps.{endAct, stopAct, reportAct, actOf}
+use Rattle.steps.proofs.Acts.{frameAt, every-act}
 
 -- the message buffer of an accepted report
 buffer-length : (s : Settings) (rows : List ℕ) (due t : ℕ) (r : Reply) → length (bufferOf s rows due t r) ≡ messageLen s

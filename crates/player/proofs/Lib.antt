@@ -1,8 +1,4 @@
 -- The laws that the functions' proofs cite, and the theorem that the fillings hand out the transcript.
-pub mod StartLaws
-pub mod StopLaws
-pub mod Acts
-pub mod StepOutcomes
 pub mod StepsLeft
 pub mod StepList
 pub mod Kept

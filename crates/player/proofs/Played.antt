@@ -12,15 +12,18 @@ use Rattle.protocol.specs.declared.Answer.{Answer}
 use Rattle.protocol.specs.declared.Answer.the-variants as answer
 use Rattle.lines.specs.Text.{written}
 use Rattle.lines.specs.Lent.{longest}
-use Rattle.player.specs.declared.Player.{Player}
-use Rattle.player.specs.declared.Start.the-variants.{Play}
-use Rattle.player.specs.Transcript.{settingsIn, recordingCause, playedFrom, transcript}
-use Rattle.player.specs.Steps.{startOf, beginOf, Act}
-use Rattle.player.specs.Filling.{noAct, after, gathered, printedOn, filledOf}
+use Rattle.stops.specs.declared.Start.the-variants.{Play}
+use Rattle.stops.specs.Stops.{settingsIn, recordingCause, startOf}
+use Rattle.stops.proofs.StartLaws.{passed}
+use Rattle.steps.specs.declared.Player.{Player}
+use Rattle.steps.specs.Steps.{beginOf, Act}
+use Rattle.steps.specs.Outcomes.{printedOn}
+use Rattle.player.specs.Transcript.{playedFrom, transcript}
+use Rattle.player.specs.Filling.{noAct, after, gathered, filledOf}
 use Rattle.player.specs.Printed.{handedOut, Fillings, Printed, Fitting, Playing}
 use Rattle.player.proofs.Kept.{act-length}
 use Rattle.player.proofs.Gathering.{gathered-none, gathered-last, gathered-more}
-use Rattle.player.proofs.StepList.{Steps, passed, from-start}
+use Rattle.player.proofs.StepList.{Steps, from-start}
 
 -- what is handed out is the text that was printed
 handed-text : (out : List ℕ) (a : Act) → handedOut (printedOn out a) ≡ a .text

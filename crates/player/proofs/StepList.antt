@@ -1,41 +1,29 @@
 -- The lines of the steps, one after another, are the transcript, and the steps end.
 use mathlib.Core.Path.{_≡_, refl}
-use mathlib.Core.Bool.{Bool, true, false, not, _||_}
+use mathlib.Core.Bool.{Bool, true, false}
 use mathlib.Core.List.{List, _∷_, _++_, append-nil}
 use Prim.Native.Nat.{ℕ, zero, suc, _+_, _-_, _*_, _/_, _%_, _≤_, _<_}
 use native.Mathlib.Nat.{div-add-mod', suc-mul}
 use native.Mathlib.Omega.{arith}
-use lib.Dec.{T, eqb, ltb}
+use lib.Dec.{T}
 use lib.ListN.{length, take, drop, replicate, length-replicate}
 use lib.Seq.{drop-drop}
-use borrow.Author.Tests.{eqb-true, not-false}
 use Rattle.code.specs.declared.settings.Settings.{Settings}
 use Rattle.code.specs.Settings.{accepted}
 use Rattle.protocol.specs.declared.Receiver.{Receiver}
-use Rattle.protocol.specs.declared.Cause.the-variants.{BadSettings, BadLength}
 use Rattle.protocol.specs.declared.Answer.the-variants as answer
 use Rattle.protocol.specs.Lengths.{messageLen, frameLen, rowCount, receiverLen}
+use Rattle.protocol.specs.States.{receiverAt}
 use Rattle.protocol.specs.Rows.{joined}
 use Rattle.protocol.specs.declared.Answer.{Answer}
-use Rattle.protocol.specs.Causes.{check}
 use Rattle.protocol.specs.Calls.{OpenedReceiver, openReceiverOf, receivedZeros, Reported, lossOf, heardOf}
-use Rattle.protocol.proofs.CauseTables.{check-clear, passes, open-clear}
-use Rattle.player.specs.declared.Player.{Player}
-use Rattle.player.specs.Transcript.{
-  settingsIn,
-  recordingCause,
-  slotIn,
-  frameStop,
-  pieces,
-  Rest,
-  refuses,
-  andThen,
-  skipped,
-  played,
-  playedFrom,
-}
-use Rattle.player.specs.Steps.{beginOf, Act, endAct, stopAct, reportAct, actOf}
-use Rattle.player.proofs.Acts.{loss-onward, heard-onward, passing-stop, passing-onward, playerAt, act-end, act-stop, act-loss, act-heard}
+use Rattle.protocol.proofs.CauseTables.{open-clear}
+use Rattle.stops.specs.Stops.{slotIn, frameStop}
+use Rattle.stops.proofs.StopLaws.{passing-stop, passing-onward}
+use Rattle.steps.specs.declared.Player.{Player}
+use Rattle.steps.specs.Steps.{refuses, beginOf, Act, endAct, stopAct, reportAct, actOf}
+use Rattle.steps.proofs.Acts.{loss-onward, heard-onward, playerAt, act-end, act-stop, act-loss, act-heard}
+use Rattle.player.specs.Transcript.{pieces, Rest, andThen, skipped, played, playedFrom}
 
 -- the steps from here on end, and this is what they print
 pub data Steps (recording : List ℕ) : Player → List ℕ → List ℕ → List ℕ → Type 0 where
@@ -63,10 +51,6 @@ module _ (recording : List ℕ) (p : Player) (rows message : List ℕ) where
 
 -- ---- the frames
 
--- the receiver of these settings at a slot
-abbrev due : Settings → ℕ → Receiver
-due s slot = record { settings = s; due = slot }
-
 module _ (recording : List ℕ) (s : Settings) (offset : ℕ) (fits : offset + frameLen s ≤ length recording) (frames : List (List ℕ)) where
   -- the frame at the offset
   abbrev here : List ℕ
@@ -77,54 +61,54 @@ module _ (recording : List ℕ) (s : Settings) (offset : ℕ) (fits : offset + f
   finish = λ y rows message. andThen y (heardOf y rows here message) (played frames)
 
   module _ (after : (slot : ℕ) (rows message : List ℕ)
-      → Steps recording (playerAt (due s slot) (offset + frameLen s)) rows message (played frames (due s slot) rows message)) where
+      → Steps recording (playerAt (receiverAt s slot) (offset + frameLen s)) rows message (played frames (receiverAt s slot) rows message)) where
     -- the report of a frame at the slot due, and what comes after it
-    heard-steps : (slot : ℕ) (rows message : List ℕ) → frameStop (due s slot) here ≡ answer.Accepted → slotIn here ≤ slot
-        → Steps recording (playerAt (due s slot) offset) rows message (finish (due s slot) rows message)
+    heard-steps : (slot : ℕ) (rows message : List ℕ) → frameStop (receiverAt s slot) here ≡ answer.Accepted → slotIn here ≤ slot
+        → Steps recording (playerAt (receiverAt s slot) offset) rows message (finish (receiverAt s slot) rows message)
     heard-steps slot rows message e reached =
-        let r : Reported = heardOf (due s slot) rows here message in
-        report-by recording (playerAt (due s slot) offset) rows message (offset + frameLen s) r (played frames)
-        (act-heard recording (playerAt (due s slot) offset) fits rows message e reached)
-        (λ free. rw (heard-onward (due s slot) rows here message free) (after (slot + 1) (r .rows) (r .message)))
+        let r : Reported = heardOf (receiverAt s slot) rows here message in
+        report-by recording (playerAt (receiverAt s slot) offset) rows message (offset + frameLen s) r (played frames)
+        (act-heard recording (playerAt (receiverAt s slot) offset) fits rows message e reached)
+        (λ free. rw (heard-onward (receiverAt s slot) rows here message free) (after (slot + 1) (r .rows) (r .message)))
 
     -- the skipped slots, then the frame
-    skip-steps : (m slot : ℕ) (rows message : List ℕ) → frameStop (due s slot) here ≡ answer.Accepted → slotIn here - slot ≡ m
-        → Steps recording (playerAt (due s slot) offset) rows message (skipped m finish (due s slot) rows message)
+    skip-steps : (m slot : ℕ) (rows message : List ℕ) → frameStop (receiverAt s slot) here ≡ answer.Accepted → slotIn here - slot ≡ m
+        → Steps recording (playerAt (receiverAt s slot) offset) rows message (skipped m finish (receiverAt s slot) rows message)
     unfolding skipped
     skip-steps zero slot rows message e left = heard-steps slot rows message e (omega arith)
     skip-steps (suc m) slot rows message e left =
         let above : slot < slotIn here = omega arith in
-        let r : Reported = lossOf (due s slot) rows message in
-        let onto : frameStop (due s (slot + 1)) here ≡ answer.Accepted =
-        passing-stop (due s (slot + 1)) here (passing-onward (due s slot) here e above) in
-        report-by recording (playerAt (due s slot) offset) rows message offset r (skipped m finish)
-        (act-loss recording (playerAt (due s slot) offset) fits rows message e above)
+        let r : Reported = lossOf (receiverAt s slot) rows message in
+        let onto : frameStop (receiverAt s (slot + 1)) here ≡ answer.Accepted =
+        passing-stop (receiverAt s (slot + 1)) here (passing-onward (receiverAt s slot) here e above) in
+        report-by recording (playerAt (receiverAt s slot) offset) rows message offset r (skipped m finish)
+        (act-loss recording (playerAt (receiverAt s slot) offset) fits rows message e above)
         (λ free.
-        rw (loss-onward (due s slot) rows message free) (skip-steps m (slot + 1) (r .rows) (r .message) onto (omega arith)))
+        rw (loss-onward (receiverAt s slot) rows message free) (skip-steps m (slot + 1) (r .rows) (r .message) onto (omega arith)))
 
     -- a frame and those after it: it stops the player, or its skipped slots are lost and it is reported
     frame-steps : (slot : ℕ) (rows message : List ℕ)
-        → Steps recording (playerAt (due s slot) offset) rows message (played (here ∷ frames) (due s slot) rows message)
+        → Steps recording (playerAt (receiverAt s slot) offset) rows message (played (here ∷ frames) (receiverAt s slot) rows message)
     unfolding played stopAct
-    frame-steps slot rows message = go (frameStop (due s slot) here) refl
+    frame-steps slot rows message = go (frameStop (receiverAt s slot) here) refl
       where
-        go : (f : Answer) → frameStop (due s slot) here ≡ f
-            → Steps recording (playerAt (due s slot) offset) rows message (played (here ∷ frames) (due s slot) rows message)
+        go : (f : Answer) → frameStop (receiverAt s slot) here ≡ f
+            → Steps recording (playerAt (receiverAt s slot) offset) rows message (played (here ∷ frames) (receiverAt s slot) rows message)
         go answer.Accepted e = rw (e, played) (skip-steps (slotIn here - slot) slot rows message e refl)
         go (answer.Refused c) e =
             rw (e, played)
-            (Steps.last (playerAt (due s slot) offset) rows message (stopAct (playerAt (due s slot) offset) rows message c)
-            (act-stop recording (playerAt (due s slot) offset) fits rows message c e) refl)
+            (Steps.last (playerAt (receiverAt s slot) offset) rows message (stopAct (playerAt (receiverAt s slot) offset) rows message c)
+            (act-stop recording (playerAt (receiverAt s slot) offset) fits rows message c e) refl)
 
 -- the frames left, one after another
 pieces-steps : (recording : List ℕ) (s : Settings) (m offset slot : ℕ) (rows message : List ℕ)
     → offset + m * frameLen s ≡ length recording
-    → Steps recording (playerAt (due s slot) offset) rows message
-    (played (pieces m (frameLen s) (drop offset recording)) (due s slot) rows message)
+    → Steps recording (playerAt (receiverAt s slot) offset) rows message
+    (played (pieces m (frameLen s) (drop offset recording)) (receiverAt s slot) rows message)
 unfolding pieces played endAct
 pieces-steps recording s zero offset slot rows message left =
-    Steps.last (playerAt (due s slot) offset) rows message (endAct (playerAt (due s slot) offset) rows message)
-    (act-end recording (playerAt (due s slot) offset) rows message (omega arith)) refl
+    Steps.last (playerAt (receiverAt s slot) offset) rows message (endAct (playerAt (receiverAt s slot) offset) rows message)
+    (act-end recording (playerAt (receiverAt s slot) offset) rows message (omega arith)) refl
 pieces-steps recording s (suc m) offset slot rows message left =
     let more : suc m * frameLen s ≡ m * frameLen s + frameLen s = suc-mul m (frameLen s) in
     rw (drop-drop (frameLen s) offset recording)
@@ -136,26 +120,12 @@ pieces-steps recording s (suc m) offset slot rows message left =
 -- the opened receiver
 abbrev openedFor : Settings → OpenedReceiver
 openedFor s =
-    record { answer = answer.Accepted; receiver = due s 0; rows = joined (rowCount s) (λ r. receivedZeros s) }
+    record { answer = answer.Accepted; receiver = receiverAt s 0; rows = joined (rowCount s) (λ r. receivedZeros s) }
 
 -- accepted settings and rows of the exact length open it
 opens : (s : Settings) (rows : List ℕ) → T (accepted s) → length rows ≡ receiverLen s → openReceiverOf s rows ≡ openedFor s
 unfolding openReceiverOf
 opens s rows ok exact = rw (open-clear s (receiverLen s) rows ok exact, openReceiverOf)
-
--- a recording that passes has accepted settings, and is whole frames
-pub passed : (recording : List ℕ) → recordingCause recording ≡ answer.Accepted
-    → T (accepted (settingsIn recording)) × (length recording % frameLen (settingsIn recording) ≡ 0)
-unfolding recordingCause
-passed recording e =
-    let s : Settings = settingsIn recording in
-    let whole : Answer = check (not (eqb (length recording % frameLen s) 0)) BadLength answer.Accepted in
-    let a =
-    check-clear (ltb (length recording) 14 || ltb 65536 (length recording)) BadLength
-    (check (not (accepted s)) BadSettings whole) e in
-    let b = check-clear (not (accepted s)) BadSettings whole (a .1) in
-    let c = check-clear (not (eqb (length recording % frameLen s) 0)) BadLength answer.Accepted (b .1) in
-    (passes (accepted s) (b .0), eqb-true (length recording % frameLen s) 0 (not-false (eqb (length recording % frameLen s) 0) (c .0)))
 
 -- a recording that passes, from its start: the steps print what it prints, and end
 pub from-start : (recording rows message : List ℕ) (s : Settings) → T (accepted s) → length recording % frameLen s ≡ 0

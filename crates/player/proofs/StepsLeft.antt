@@ -9,11 +9,12 @@ use Rattle.protocol.specs.declared.Cause.{Cause}
 use Rattle.protocol.specs.Lengths.{frameLen}
 use Rattle.protocol.specs.declared.Answer.the-variants as answer
 use Rattle.protocol.specs.Calls.{Reported, lossOf, heardOf}
-use Rattle.player.specs.declared.Player.{Player}
-use Rattle.player.specs.Transcript.{slotIn, frameStop}
-use Rattle.player.specs.Steps.{Act, endAct, stopAct, reportAct, actOf}
+use Rattle.stops.specs.Stops.{slotIn, frameStop}
+use Rattle.stops.proofs.StopLaws.{stop-passing}
+use Rattle.steps.specs.declared.Player.{Player}
+use Rattle.steps.specs.Steps.{Act, endAct, stopAct, reportAct, actOf}
+use Rattle.steps.proofs.Acts.{frame-some, loss-onward, frameAt, every-act}
 use Rattle.player.specs.Filling.{enoughSteps}
-use Rattle.player.proofs.Acts.{frame-some, loss-onward, stop-passing, frameAt, every-act}
 
 -- the bytes left, and the slots to skip before the frame at the offset; a byte counts for more than the slots of any frame that passes
 unfoldable pub stepsLeft : List ℕ → Player → ℕ

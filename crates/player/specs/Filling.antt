@@ -1,14 +1,13 @@
 -- Filling a buffer: the lines of the steps, one after another, until the longest may not fit into what is left of it, or the end.
-use mathlib.Core.Bool.{Bool, true, false}
+use mathlib.Core.Bool.{true, false}
 use mathlib.Core.List.{List, [], _++_}
 use Prim.Native.Nat.{ℕ, zero, suc, _+_, _-_, _*_}
 use lib.Dec.{ltb}
 use lib.ListN.{length}
-use Rattle.lines.specs.Text.{written}
 use Rattle.lines.specs.Lent.{longest}
-use Rattle.player.specs.declared.Player.{Player}
-use Rattle.player.specs.declared.Progress.{Progress}
-use Rattle.player.specs.Steps.{Act, actOf}
+use Rattle.steps.specs.declared.Player.{Player}
+use Rattle.steps.specs.Steps.{Act, actOf}
+use Rattle.steps.specs.Outcomes.{Outcome, printedOn}
 
 -- ---- several steps as one
 
@@ -43,32 +42,6 @@ unfoldable pub gathered : List ℕ → ℕ → Player → List ℕ → List ℕ 
 gathered recording = stepsWithin (enoughSteps recording) recording
 
 -- ---- in a lent buffer
-
--- how far playing on came, and every lent list after it
-pub record Outcome : Type 0 where
-  pub player : Player
-  pub rows : List ℕ
-  pub message : List ℕ
-  pub out : List ℕ
-  pub len : ℕ
-  pub over : Bool
-
--- what a call gives back and leaves
-abbrev pub outcome : Progress → List ℕ → List ℕ → List ℕ → Outcome
-outcome r rows message out =
-    record { player = r .player; rows = rows; message = message; out = out; len = r .len; over = r .over }
-
--- what is printed stands over the start of the lent buffer; the rest of it stays as it is
-unfoldable pub printedOn : List ℕ → Act → Outcome
-printedOn out a =
-    record {
-      player = a .player;
-      rows = a .rows;
-      message = a .message;
-      out = written (a .text) out;
-      len = length (a .text);
-      over = a .over;
-    }
 
 -- the buffer is filled; if it has no room for the longest line nothing changes
 unfoldable pub filledOf : Player → List ℕ → List ℕ → List ℕ → List ℕ → Outcome

@@ -1,5 +1,4 @@
--- What a recording prints; its start and its steps; buffers filled by steps; and what they hand out.
+-- What a recording prints; buffers filled by steps; and what they hand out.
 pub mod Transcript
-pub mod Steps
 pub mod Filling
 pub mod Printed

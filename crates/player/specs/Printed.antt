@@ -9,11 +9,13 @@ use Rattle.protocol.specs.declared.Cause.{Cause}
 use Rattle.protocol.specs.Lengths.{messageLen, receiverLen}
 use Rattle.lines.specs.Text.{stopLine}
 use Rattle.lines.specs.Lent.{longest}
-use Rattle.player.specs.declared.Player.{Player}
-use Rattle.player.specs.declared.Start.the-variants.{Empty, Stop, Play}
+use Rattle.stops.specs.declared.Start.the-variants.{Empty, Stop, Play}
+use Rattle.stops.specs.Stops.{startOf}
+use Rattle.steps.specs.declared.Player.{Player}
+use Rattle.steps.specs.Steps.{Begun, beginOf}
+use Rattle.steps.specs.Outcomes.{Outcome}
 use Rattle.player.specs.Transcript.{transcript}
-use Rattle.player.specs.Steps.{startOf, Begun, beginOf}
-use Rattle.player.specs.Filling.{Outcome, filledOf}
+use Rattle.player.specs.Filling.{filledOf}
 
 -- what a filling hands out: the first bytes of its buffer
 abbrev pub handedOut : Outcome → List ℕ

@@ -1,58 +1,19 @@
 -- Document 01, "Playing a recording": the bytes that are printed for the bytes of a recording.
-use mathlib.Core.Bool.{Bool, true, false, not, _||_}
+use mathlib.Core.Bool.{true, false}
 use mathlib.Core.List.{List, [], _∷_, _++_}
-use Prim.Native.Nat.{ℕ, zero, suc, _+_, _-_, _*_, _/_, _%_}
-use lib.Dec.{eqb, ltb}
-use lib.ListN.{getD, length, take, drop, replicate}
+use Prim.Native.Nat.{ℕ, zero, suc, _-_, _/_}
+use lib.Dec.{eqb}
+use lib.ListN.{length, take, drop, replicate}
 use Rattle.code.specs.declared.settings.Settings.{Settings}
-use Rattle.code.specs.Settings.{accepted}
 use Rattle.protocol.specs.declared.Receiver.{Receiver}
-use Rattle.protocol.specs.declared.Reply.{Reply}
-use Rattle.protocol.specs.declared.Cause.the-variants.{BadSettings, BadLength, OtherMark, OtherSettings, OtherSlot}
 use Rattle.protocol.specs.Lengths.{messageLen, frameLen, receiverLen}
-use Rattle.protocol.specs.Frame.{mark, five}
-use Rattle.protocol.specs.declared.Answer.{Answer}
 use Rattle.protocol.specs.declared.Answer.the-variants as answer
-use Rattle.protocol.specs.Causes.{check, agree}
-use Rattle.protocol.specs.Claim.{accepts}
 use Rattle.protocol.specs.Calls.{OpenedReceiver, openReceiverOf, Reported, messageDue, lossOf, heardOf}
 use Rattle.lines.specs.Text.{stopLine, lineOf}
-
--- ---- before any line
-
--- the first frame gives the settings: its bytes 5 to 9
-unfoldable pub settingsIn : List ℕ → Settings
-settingsIn recording =
-    record {
-      window = getD recording 5 0;
-      delay = getD recording 6 0;
-      burst = getD recording 7 0;
-      scattered = getD recording 8 0;
-      lanes = getD recording 9 0;
-    }
-
--- shorter than 14 bytes or longer than 64 KiB is 2; then settings that aren't accepted are 1; then no whole number of frames is 2
-unfoldable pub recordingCause : List ℕ → Answer
-recordingCause recording =
-    let s : Settings = settingsIn recording in
-    check (ltb (length recording) 14 || ltb 65536 (length recording)) BadLength
-    (check (not (accepted s)) BadSettings
-    (check (not (eqb (length recording % frameLen s) 0)) BadLength
-    answer.Accepted))
+use Rattle.stops.specs.Stops.{settingsIn, recordingCause, slotIn, frameStop}
+use Rattle.steps.specs.Steps.{refuses}
 
 -- ---- the frames
-
--- the slot of a frame: 32 bits, high byte first
-unfoldable pub slotIn : List ℕ → ℕ
-slotIn frame = ((getD frame 10 0 * 256 + getD frame 11 0) * 256 + getD frame 12 0) * 256 + getD frame 13 0
-
--- a frame meets 4 and 5 in the table's order; its slot is 6 if it is below the slot due or more than 4,095 above it
-unfoldable pub frameStop : Receiver → List ℕ → Answer
-frameStop x frame =
-    check (not (agree 5 frame (mark 1))) OtherMark
-    (check (not (agree 5 (drop 5 frame) (five (x .settings)))) OtherSettings
-    (check (ltb (slotIn frame) (x .due) || ltb (x .due + 4095) (slotIn frame)) OtherSlot
-    answer.Accepted))
 
 -- frames of one length, back to back
 unfoldable pub pieces : ℕ → ℕ → List ℕ → List (List ℕ)
@@ -64,10 +25,6 @@ pieces (suc m) size recording = take size recording ∷ pieces m size (drop size
 -- what is printed from here on, by the receiver, its rows and the message buffer
 abbrev pub Rest : Type 0
 Rest = Receiver → List ℕ → List ℕ → List ℕ
-
--- whether a report was refused
-abbrev pub refuses : Reply → Bool
-refuses r = not (accepts r)
 
 -- a report of the slot due: its line, and what comes after it; at a refusal the line of `stop`, and the end
 unfoldable pub andThen : Receiver → Reported → Rest → List ℕ

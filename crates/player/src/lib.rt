@@ -1,37 +1,42 @@
-// Playing a recording: how it starts, and the steps that print it, a report and at most one line each, gathered in a buffer that the
-// caller writes out. Document 01, "Playing a recording".
-mod filling;
-mod frame;
-mod opening;
-mod steps;
+// Playing a recording: a lent buffer is filled with the lines of steps, one after another. Document 01, "Playing a recording".
+use lines::has_room;
+use steps::Player;
+use steps::Progress;
+use steps::step;
+ghost use mathlib.Core.Path.{_≡_};
+ghost use Rattle.steps.specs.Outcomes.{outcome};
+ghost use Rattle.player.specs.Filling.{filledOf};
 
-use code::Settings;
-pub use filling::fill;
-pub use opening::examine;
-use protocol::Cause;
-use protocol::Receiver;
-pub use steps::begin;
-
-// What a player keeps between two steps: the receiver, and where in the recording the next frame starts.
-pub struct Player {
-    pub receiver: Receiver,
-    pub offset: usize,
-}
-
-// How a recording starts.
-pub enum Start {
-    // It is empty, and prints nothing.
-    Empty,
-    // It is refused before any line.
-    Stop(Cause),
-    // It is played with these settings.
-    Play(Settings),
-}
-
-// How far playing on came: the player as it is then, and how many bytes of the lent buffer are printed, from its first on.
-pub struct Progress {
-    pub player: Player,
-    pub len: usize,
-    // The recording is played, or a refusal has ended it.
-    pub over: bool,
+// Plays on until the longest line may not fit into what is left of the buffer, or the recording is over.
+pub fn fill(
+    p: Player,
+    recording: &[u8],
+    rows: &mut [u8],
+    message: &mut [u8],
+    out: &mut [u8],
+) -> Progress
+    ensures { λ r. ⌜
+        outcome r (now (rows .exit)) (now (message .exit)) (now (out .exit))
+        ≡ filledOf p (now (recording .entry)) (now (rows .entry)) (now (message .entry)) (now (out .entry))
+        ⌝ }
+{
+    let mut q = p;
+    let mut at: usize = 0;
+    while has_room(out.len() - at, message.len()) {
+        let stepped = step(q, recording, rows, message, &mut out[at..]);
+        q = stepped.player;
+        at += stepped.len;
+        if stepped.over {
+            return Progress {
+                player: q,
+                len: at,
+                over: true,
+            };
+        }
+    }
+    Progress {
+        player: q,
+        len: at,
+        over: false,
+    }
 }

@@ -8,7 +8,8 @@ use lib.ListN.{length-take}
 use Rattle.code.specs.Settings.{accepted}
 use Rattle.lines.specs.Lent.{Line}
 use Rattle.lines.proofs.LentLines.{stop-fits}
-use Rattle.player.proofs.LoopLaws.{play-accepted, rows-few, message-few}
+use Rattle.stops.proofs.StartLaws.{play-accepted}
+use Rattle.player.proofs.LoopLaws.{rows-few, message-few}
 use Rattle.play.proofs.play.Statement.{statement}
 use Rattle.play.proofs.play.Tie as tie
 

@@ -7,7 +7,8 @@ use Prim.Native.Nat.{ℕ, _+_, _*_, _≤_, _<_}
 use denote.Ref.{now}
 use lib.ListN.{length}
 use Rattle.lines.specs.Lent.{longest}
-use Rattle.player.specs.Filling.{Outcome, outcome, filledOf}
+use Rattle.steps.specs.Outcomes.{Outcome, outcome}
+use Rattle.player.specs.Filling.{filledOf}
 use Rattle.player.proofs.LoopLaws.{filled-fits, filled-fewer}
 use Rattle.player.proofs.StepsLeft.{stepsLeft}
 use Rattle.play.proofs.play_steps.Statement.{statement}

@@ -1,0 +1,17 @@
+-- There is room, so the line of `stop` is written.
+use borrow.Author.Needs.{needs}
+use mathlib.Core.Path.{refl}
+use native.Mathlib.Omega.{arith}
+use denote.Ref.{now}
+use Rattle.lines.proofs.LentLines.{stop-parts}
+use Rattle.steps.proofs.telling.stopped.Statement.{statement}
+use Rattle.steps.proofs.telling.stopped.Tie as tie
+
+returns : tie.Need-returns
+returns c =
+    let a = c .before .before .before .before .before .args in
+    let wrote = stop-parts (a .c) (now (a .line)) _ _ (c .before .before .write-stop .ensures) (omega arith) in
+    (refl, wrote .0, refl, wrote .1)
+
+pub stopped-spec : {M : Type 1} → statement M
+stopped-spec = tie.close (tie.spec (λ c κs. search needs) (λ c. search needs) returns)

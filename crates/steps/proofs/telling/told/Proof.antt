@@ -1,0 +1,36 @@
+-- There is room, so the line is that of the report.
+use borrow.Author.Needs.{needs}
+use mathlib.Core.Path.{refl, ap, _∙_}
+use Prim.Native.Nat.{ℕ}
+use denote.Ref.{now}
+use lib.ListN.{length}
+use Rattle.lines.specs.Text.{lineOf, written}
+use Rattle.lines.specs.Lent.{longest}
+use Rattle.lines.proofs.LentLines.{line-parts}
+use Rattle.steps.proofs.telling.told.Statement.{statement}
+use Rattle.steps.proofs.telling.told.Tie as tie
+
+returns : tie.Need-returns
+unfolding longest
+returns c =
+    let start = c .before .before .before .before .before .before .before .before .before in
+    let a = start .args in
+    let called = c .before .before .before in
+    let number = called .before .before .about in
+    let same = number .ensures in
+    let wrote = line-parts (number .result) (a .r .reply) (now (a .message)) (now (a .line)) _ _ (called .write-line .ensures) (start .pre) in (
+      refl,
+      wrote .0 ∙ ap (λ (t : ℕ). length (lineOf t (a .r .reply) (now (a .message)))) same,
+      c .refused .ensures,
+      wrote .1 ∙ ap (λ (t : ℕ). written (lineOf t (a .r .reply) (now (a .message))) (now (a .line))) same,
+    )
+
+pub told-spec : {M : Type 1} → statement M
+told-spec =
+    tie.close
+    (tie.spec
+    (λ c κs. search needs)
+    (λ c κs. search needs)
+    (λ c κs. search needs)
+    (λ c. search needs)
+    returns)

@@ -1,0 +1,117 @@
+// The steps of a player: each makes one report, and writes at most one line over the start of a lent one. Document 01, "Playing a
+// recording".
+mod telling;
+
+use code::Settings;
+use protocol::Answer;
+use protocol::Cause;
+use protocol::Receiver;
+use protocol::clear;
+use protocol::frame_len;
+use recording::Found;
+use recording::next_frame;
+use stops::slot_of;
+use stops::stop_of;
+use telling::stopped;
+use telling::told;
+use terminal::report_kept;
+ghost use mathlib.Core.Bool.{cond};
+ghost use mathlib.Core.Path.{_≡_};
+ghost use Prim.Native.Nat.{_+_, _*_, _≤_};
+ghost use lib.ListN.{length};
+ghost use Rattle.steps.specs.Steps.{beginOf, frameAct, actOf};
+ghost use Rattle.steps.specs.Outcomes.{outcome, printedOn};
+
+// What a player keeps between two steps: the receiver, and where in the recording the next frame starts.
+pub struct Player {
+    pub receiver: Receiver,
+    pub offset: usize,
+}
+
+// How far playing on came: the player as it is then, and how many bytes of the lent buffer are printed, from its first on.
+pub struct Progress {
+    pub player: Player,
+    pub len: usize,
+    // The recording is played, or a refusal has ended it.
+    pub over: bool,
+}
+
+// A player at the start of a recording with these settings.
+pub fn begin(s: Settings, rows: &mut [u8], message: &mut [u8]) -> Player
+    ensures { λ r. ⌜
+        record { player = r; rows = now (rows .exit); message = now (message .exit) }
+        ≡ beginOf s (now (rows .entry)) (now (message .entry))
+        ⌝ }
+{
+    let opened = receiver::open(s, rows);
+    clear(message);
+    let x = opened.receiver;
+    Player {
+        receiver: x,
+        offset: 0,
+    }
+}
+
+// Where the next frame starts: behind the one at the offset if that was heard.
+fn offset_after(heard: bool, offset: usize, end: usize) -> usize
+    ensures { λ r. ⌜ r ≡ cond heard end offset ⌝ }
+{
+    if heard {
+        return end;
+    }
+    offset
+}
+
+// A step at a frame that ends at this place of the recording: it stops the player, or the slot due is lost, or it is reported.
+fn at_frame(
+    p: Player,
+    frame: &[u8],
+    end: usize,
+    rows: &mut [u8],
+    message: &mut [u8],
+    line: &mut [u8],
+) -> Progress
+    requires { ⌜ (14 ≤ length (now frame)) × (18 + 2 * length (now message) ≤ length (now line)) ⌝ }
+    ensures { λ r. ⌜
+        outcome r (now (rows .exit)) (now (message .exit)) (now (line .exit))
+        ≡ printedOn (now (line .entry)) (frameAct p (now (frame .entry)) end (now (rows .entry)) (now (message .entry)))
+        ⌝ }
+{
+    let x = p.receiver;
+    let stop = stop_of(x, frame);
+    if let Answer::Refused(c) = stop {
+        return stopped(p, c, line);
+    }
+    let heard = slot_of(frame) <= x.due;
+    let r = report_kept(x, rows, heard, frame, message);
+    told(x, offset_after(heard, p.offset, end), r, message, line)
+}
+
+// One step: a report, and its line.
+pub fn step(
+    p: Player,
+    recording: &[u8],
+    rows: &mut [u8],
+    message: &mut [u8],
+    line: &mut [u8],
+) -> Progress
+    requires { ⌜ 18 + 2 * length (now message) ≤ length (now line) ⌝ }
+    ensures { λ r. ⌜
+        outcome r (now (rows .exit)) (now (message .exit)) (now (line .exit))
+        ≡ printedOn (now (line .entry)) (actOf p (now (recording .entry)) (now (rows .entry)) (now (message .entry)))
+        ⌝ }
+{
+    let x = p.receiver;
+    let s = x.settings;
+    match next_frame(recording, p.offset, frame_len(s)) {
+        Found::End => Progress {
+            player: p,
+            len: 0,
+            over: true,
+        },
+        Found::Part => stopped(p, Cause::BadLength, line),
+        Found::Frame { start, end } => {
+            at_frame(p, &recording[start..end], end, rows, message, line)
+        }
+    }
+}

@@ -1,0 +1,88 @@
+// What a step tells: the line of a refusal, or that of a report.
+use crate::Player;
+use crate::Progress;
+use lines::write_line;
+use lines::write_stop;
+use protocol::Cause;
+use protocol::Receiver;
+use protocol::Reply;
+use receiver::Reported;
+ghost use mathlib.Core.Path.{_≡_};
+ghost use mathlib.Core.Bool.{true};
+ghost use Prim.Native.Nat.{_+_, _*_, _≤_};
+ghost use lib.ListN.{length};
+ghost use Rattle.protocol.specs.Calls.{messageDue};
+ghost use Rattle.lines.specs.Text.{stopLine, lineOf, written};
+ghost use Rattle.steps.specs.Steps.{refuses};
+
+// The message that the report of the slot due tells of, if there is one.
+fn about(x: Receiver) -> u32
+    ensures { λ r. ⌜ r ≡ messageDue (x .settings) (x .due) ⌝ }
+{
+    let s = x.settings;
+    let delay = s.effective_delay() as u32;
+    if x.due < delay {
+        return 0;
+    }
+    x.due - delay
+}
+
+// Whether a report was refused.
+fn refused(r: Reply) -> bool
+    ensures { λ b. ⌜ b ≡ refuses r ⌝ }
+{
+    match r {
+        Reply::Refused(_) => true,
+        Reply::NoneYet => false,
+        Reply::Whole => false,
+        Reply::Lost => false,
+        Reply::Clash => false,
+    }
+}
+
+// A refusal is the last step.
+pub(crate) fn stopped(p: Player, c: Cause, line: &mut [u8]) -> Progress
+    requires { ⌜ 18 ≤ length (now line) ⌝ }
+    ensures { λ r. ⌜
+        (r .player ≡ p)
+        × (r .len ≡ length (stopLine c))
+        × (r .over ≡ true)
+        × (now (line .exit) ≡ written (stopLine c) (now (line .entry)))
+        ⌝ }
+{
+    let len = write_stop(c, line);
+    Progress {
+        player: p,
+        len: len,
+        over: true,
+    }
+}
+
+// A report by this receiver, told on the line; the next frame starts at the offset, and a refused report is the last.
+pub(crate) fn told(
+    x: Receiver,
+    offset: usize,
+    r: Reported,
+    message: &[u8],
+    line: &mut [u8],
+) -> Progress
+    requires { ⌜ 18 + 2 * length (now message) ≤ length (now line) ⌝ }
+    ensures { λ q. ⌜
+        (q .player ≡ record { receiver = r .receiver; offset = offset })
+        × (q .len ≡ length (lineOf (messageDue (x .settings) (x .due)) (r .reply) (now (message .entry))))
+        × (q .over ≡ refuses (r .reply))
+        × (now (line .exit) ≡ written (lineOf (messageDue (x .settings) (x .due)) (r .reply) (now (message .entry))) (now (line .entry)))
+        ⌝ }
+{
+    let reply = r.reply;
+    let after = r.receiver;
+    let len = write_line(about(x), reply, message, line);
+    Progress {
+        player: Player {
+            receiver: after,
+            offset: offset,
+        },
+        len: len,
+        over: refused(reply),
+    }
+}
