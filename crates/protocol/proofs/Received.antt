@@ -53,14 +53,14 @@ accepted-taken : (r : ReportMade) → Taken r ⊎ Stayed r → T (accepts (r .af
 accepted-taken r (inl t) ok = t
 accepted-taken r (inr t) ok = absurd (t .failed ok)
 
--- what a report of slot t + T tells of message t
-abbrev pub ByVerdict : Settings → ℕ → Reported → Type 0
-ByVerdict s t q =
-    (q .reply ≡ verdict s (q .rows) (t + delayOf s + 1) t)
-    × (q .message ≡ bufferOf s (q .rows) (t + delayOf s + 1) t (verdict s (q .rows) (t + delayOf s + 1) t))
+-- what a call tells of message t, once the slots below due are reported
+abbrev pub ByVerdict : Settings → ℕ → ℕ → Reported → Type 0
+ByVerdict s due t q =
+    (q .reply ≡ verdict s (q .rows) due t) × (q .message ≡ bufferOf s (q .rows) due t (verdict s (q .rows) due t))
 
+-- a report of slot t + T tells of it
 pub by-verdict : (x : Receiver) (t : ℕ) (row rows : List ℕ) → x .due ≡ t + delayOf (x .settings)
-    → ByVerdict (x .settings) t (movedOn x row rows)
+    → ByVerdict (x .settings) (t + delayOf (x .settings) + 1) t (movedOn x row rows)
 unfolding movedOn messageDue
 by-verdict x t row rows e =
     let delay : ℕ = delayOf (x .settings) in
@@ -83,10 +83,11 @@ module _ {s : Settings} {d : ℕ} {rows : List ℕ} {told : List ReportMade} (ch
 
   -- the report of slot t + T tells of message t
   pub told-at : (r : ReportMade) (t : ℕ) → List·Memᴰ r told → T (accepts (r .after .reply)) → r .before .due ≡ t + delayOf s
-      → ByVerdict s t (r .after)
+      → ByVerdict s (t + delayOf s + 1) t (r .after)
   told-at r t listed ok e =
       let x : Receiver = r .before in
       let same : x .settings ≡ s = along chain r listed .settings in
       let due : x .due ≡ t + delayOf (x .settings) = rw same e in
-      subst (λ (q : Settings). ByVerdict q t (r .after)) same
-      (subst⁻¹ (ByVerdict (x .settings) t) (taken-of r listed ok .moved) (by-verdict x t (rowOf (x .settings) (r .call)) (r .rows) due))
+      subst (λ (q : Settings). ByVerdict q (t + delayOf q + 1) t (r .after)) same
+      (subst⁻¹ (ByVerdict (x .settings) (t + delayOf (x .settings) + 1) t) (taken-of r listed ok .moved)
+      (by-verdict x t (rowOf (x .settings) (r .call)) (r .rows) due))

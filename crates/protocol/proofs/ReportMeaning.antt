@@ -15,7 +15,7 @@ use Rattle.protocol.specs.declared.Reply.{Reply}
 use Rattle.protocol.specs.declared.Reply.the-variants as reply
 use Rattle.protocol.specs.Lengths.{rowLen, rowCount}
 use Rattle.protocol.specs.Rows.{putRow}
-use Rattle.protocol.specs.Verdict.{noneFits, twoDiffer, verdict}
+use Rattle.protocol.specs.Verdict.{arrived, noneFits, twoDiffer, verdict}
 use Rattle.protocol.specs.declared.Answer.{Answer}
 use Rattle.protocol.specs.declared.Answer.the-variants as answer
 use Rattle.protocol.specs.Causes.{lossCause, frameCause}
@@ -23,7 +23,7 @@ use Rattle.protocol.specs.Numbers.{replyNumber}
 use Rattle.protocol.specs.Calls.{Reported, messageDue, movedOn, lossOf, heardOf, openReceiverOf}
 use Rattle.protocol.specs.TwoLists.{Report, heard, missed, reportOf, rowOf, reports}
 use Rattle.protocol.specs.Histories.{accepts}
-use Rattle.protocol.specs.Meaning.{inTime, AllShare, Tells, AcceptedReport, Demand2Verdict}
+use Rattle.protocol.specs.Meaning.{AllShare, Tells, AcceptedReport, Demand2Verdict}
 use Rattle.protocol.proofs.NumberLaws.{reply-tells}
 use Rattle.protocol.proofs.VerdictMeaning.{verdict-clash, verdict-lost, verdict-else, whole-bytes, buffer-length, buffer-zeros}
 use Rattle.protocol.proofs.ReportSteps.{heard-moves, heard-stays, loss-moves, loss-stays}
@@ -41,24 +41,22 @@ none-by false q n = (λ e. absurd (n e), λ h. absurd h)
 
 -- ---- the verdict, by its number
 
-module _ (s : Settings) (t : ℕ) (r : Reported) (e : ByVerdict s t r) where
-  number-of : {P : Type 0} (x : Reply) → (verdict s (r .rows) (t + delayOf s + 1) t ≡ x) ↔ P → (replyNumber (r .reply) ≡ replyNumber x) ↔ P
+module _ (s : Settings) (due t : ℕ) (r : Reported) (e : ByVerdict s due t r) where
+  number-of : {P : Type 0} (x : Reply) → (verdict s (r .rows) due t ≡ x) ↔ P → (replyNumber (r .reply) ≡ replyNumber x) ↔ P
   number-of x iff = (
     λ n. iff .0 (sym (e .0) ∙ reply-tells (r .reply) x n),
     λ p. ap replyNumber (e .0 ∙ iff .1 p),
   )
 
-  tells : Tells s t r
-  tells =
-      let due : ℕ = t + delayOf s + 1 in
-      record {
-        clash = number-of reply.Clash (verdict-clash s (r .rows) due t);
-        lost = number-of reply.Lost (verdict-lost s (r .rows) due t);
-        whole = number-of reply.Whole (verdict-else s (r .rows) due t);
-        shared = λ n.
-            subst⁻¹ (λ (l : List ℕ). AllShare s (inTime s (r .rows) t) (λ i v. getD l (i * s .lanes + v) 0)) (e .1)
-            (whole-bytes s (r .rows) due t (sym (e .0) ∙ reply-tells (r .reply) reply.Whole n));
-      }
+  tells : Tells s (arrived s (r .rows) due t) r
+  tells = record {
+    clash = number-of reply.Clash (verdict-clash s (r .rows) due t);
+    lost = number-of reply.Lost (verdict-lost s (r .rows) due t);
+    whole = number-of reply.Whole (verdict-else s (r .rows) due t);
+    shared = λ n.
+        subst⁻¹ (λ (l : List ℕ). AllShare s (arrived s (r .rows) due t) (λ i v. getD l (i * s .lanes + v) 0)) (e .1)
+        (whole-bytes s (r .rows) due t (sym (e .0) ∙ reply-tells (r .reply) reply.Whole n));
+  }
 
 -- ---- by the rows
 
@@ -86,7 +84,7 @@ moved-report x call rows =
       written = refl;
       none-yet = (λ e. ltb→lt (x .due) (delayOf s) (none .0 e), λ h. none .1 (lt→ltb (x .due) (delayOf s) h));
       tells = λ u e.
-          tells s u (movedOn x (rowOf s call) rows) (by-verdict x u (rowOf s call) rows e);
+          tells s (u + delayOf s + 1) u (movedOn x (rowOf s call) rows) (by-verdict x u (rowOf s call) rows e);
       exact = buffer-length s now (x .due + 1) t told;
       zeros = buffer-zeros s now (x .due + 1) t told;
     }

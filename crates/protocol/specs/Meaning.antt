@@ -112,13 +112,13 @@ AllShare s what byte = (i v : ℕ) → i < kOf s → v < s .lanes → Share s (F
 
 -- ---- the report
 
--- what came of a report of slot t + T tells of message t: 19 is clash, else 18 lost, else 17 whole, with the bytes that they share
-pub record Tells (s : Settings) (t : ℕ) (r : Reported) : Type 0 where
-  pub clash : (replyNumber (r .reply) ≡ 19) ↔ SomeClash s (inTime s (r .rows) t)
-  pub lost : (replyNumber (r .reply) ≡ 18) ↔ ((SomeClash s (inTime s (r .rows) t) → ⊥) × SomeLost s (inTime s (r .rows) t))
-  pub whole : (replyNumber (r .reply) ≡ 17)
-      ↔ ((SomeClash s (inTime s (r .rows) t) → ⊥) × (SomeLost s (inTime s (r .rows) t) → ⊥))
-  pub shared : replyNumber (r .reply) ≡ 17 → AllShare s (inTime s (r .rows) t) (λ i v. getD (r .message) (i * s .lanes + v) 0)
+-- what came of a call tells of a message by what arrived of its codewords: 19 is clash, else 18 lost, else 17 whole, with the bytes
+-- that they share
+pub record Tells (s : Settings) (what : ℕ → ℕ → Arrived) (r : Reported) : Type 0 where
+  pub clash : (replyNumber (r .reply) ≡ 19) ↔ SomeClash s what
+  pub lost : (replyNumber (r .reply) ≡ 18) ↔ ((SomeClash s what → ⊥) × SomeLost s what)
+  pub whole : (replyNumber (r .reply) ≡ 17) ↔ ((SomeClash s what → ⊥) × (SomeLost s what → ⊥))
+  pub shared : replyNumber (r .reply) ≡ 17 → AllShare s what (λ i v. getD (r .message) (i * s .lanes + v) 0)
 
 -- an accepted report of slot due, whatever the rows say: the settings stay, the slot due moves on, its row is written, 16, "none yet",
 -- is told exactly below slot T, the message buffer has its length, and zeros unless the message is whole
@@ -126,7 +126,7 @@ pub record AcceptedReport (s : Settings) (due : ℕ) (rows : List ℕ) (call : R
   pub moved : (r .receiver .settings ≡ s) × (r .receiver .due ≡ due + 1)
   pub written : r .rows ≡ putRow (rowLen s) (due % rowCount s) (rowOf s call) rows
   pub none-yet : (replyNumber (r .reply) ≡ 16) ↔ (due < delayOf s)
-  pub tells : (t : ℕ) → due ≡ t + delayOf s → Tells s t r
+  pub tells : (t : ℕ) → due ≡ t + delayOf s → Tells s (inTime s (r .rows) t) r
   pub exact : length (r .message) ≡ messageLen s
   pub zeros : (replyNumber (r .reply) ≡ 17 → ⊥) → r .message ≡ replicate (messageLen s) 0
 
