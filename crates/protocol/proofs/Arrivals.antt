@@ -109,7 +109,7 @@ module _ {s : Settings} {d : ℕ} {told : List ReportMade} {rows : List ℕ} {du
   came-row b (Came.early h) = rw (row-early c t i p hi h) (refl, early-byte s (p * s .lanes + v))
   came-row b (Came.heard f late h) =
       let a = h .by in
-      let from : d + i ≤ t + p = omega (arith, due-from (c .chain) (a .report) (a .listed), a .slot) in
+      let from : d + i ≤ t + p = omega (arith, due-from (c .begun .chain) (a .report) (a .listed), a .slot) in
       rw (row-reported c t i p hi from (heard f (h .message)) a) (refl, heard-byte f (p * s .lanes + v))
 
   -- a position is known with a byte exactly if its slot was reported and brought it

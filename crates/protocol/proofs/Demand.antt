@@ -25,10 +25,9 @@ use Rattle.protocol.specs.Meaning.{Came}
 use Rattle.protocol.specs.Claim.{Faithful, Holds, Demand3}
 use Rattle.protocol.proofs.TrueWords.{symbol-early, symbol-slot}
 use Rattle.protocol.proofs.SenderList.{sentOf, opened-sent, once, message-at, sent-before, message-byte, sends-taken, sent-lengths, sent-header, frame-true}
-use Rattle.protocol.proofs.ReportChain.{Chain, opened-chain}
 use Rattle.protocol.proofs.SlotReports.{lostSince, lost-from}
 use Rattle.protocol.proofs.Received.{reports-taken, own-accepted, told-at}
-use Rattle.protocol.proofs.ReceivedRows.{Holding, Reached, heard-since, left-by, rowBefore, opened-rows}
+use Rattle.protocol.proofs.ReceivedRows.{Begun, Reached, heard-since, left-by, rowBefore, opened}
 use Rattle.protocol.proofs.Arrivals.{known-if, known-came}
 use Rattle.protocol.proofs.Recovery.{Truthful, recovered, whole-message}
 
@@ -38,8 +37,7 @@ not-true false t = refl
 
 -- the sends of an accepted opening, and reports from any slot d on, each accepted frame being the sender's own
 module _ (s : Settings) (ok : T (accepted s)) (calls : List Send) (bytes : (c : Send) → List·Memᴰ c calls → Bytes (c .message))
-    (told : List ReportMade) {d : ℕ} {opening : List ℕ} (chain : Chain s d opening told) (opened : Holding s opening d (rowBefore s))
-    (faithful : Faithful (sentOf s calls) told) where
+    (told : List ReportMade) {d : ℕ} (begun : Begun s (rowBefore s) d told) (faithful : Faithful (sentOf s calls) told) where
   abbrev sent : List SendMade
   sent = sentOf s calls
 
@@ -59,7 +57,7 @@ module _ (s : Settings) (ok : T (accepted s)) (calls : List Send) (bytes : (c : 
       → SentAs sent (r .before .due) message f → length m ≡ messageLen s → T (accepts (r .after .reply))
   own-frame r f m message listed call a full =
       let sizes = sent-lengths s ok calls (r .before .due) message f a in
-      own-accepted chain r f m listed call (sizes .1) (sent-header s ok calls (r .before .due) message f a) (sizes .2) full
+      own-accepted (begun .chain) r f m listed call (sizes .1) (sent-header s ok calls (r .before .due) message f a) (sizes .2) full
 
   -- what came of a codeword is the true word's
   came-true : (t i v p b : ℕ) → p < nOf s → v < s .lanes → Came s told t i v p b → b ≡ symbol s (source s messages t i v) p
@@ -84,7 +82,7 @@ module _ (s : Settings) (ok : T (accepted s)) (calls : List Send) (bytes : (c : 
     reached : Reached s (rowBefore s) d told (r .after .rows) (t + delayOf s + 1)
     reached =
         subst (λ (due : ℕ). Reached s (rowBefore s) d told (r .after .rows) (due + 1)) slot
-        (left-by (shape s ok) (rowBefore s) chain opened r listed passed)
+        (left-by begun r listed passed)
 
     -- one of the slots t to t + T was heard
     one-heard : (τ : ℕ) × (f : List ℕ) × (t ≤ τ) × Heard told τ f
@@ -110,7 +108,7 @@ module _ (s : Settings) (ok : T (accepted s)) (calls : List Send) (bytes : (c : 
         × (r .after .message ≡ message)
     on-time =
         let (message, frame, a) = was-sent in
-        let tells = told-at chain r t listed passed slot in
+        let tells = told-at (begun .chain) r t listed passed slot in
         let same : messages t ≡ message = message-at s calls t message frame a in
         let full : length (messages t) ≡ messageLen s = ap length same ∙ sent-lengths s ok calls t message frame a .0 in
         let rows = r .after .rows in
@@ -129,7 +127,7 @@ module _ (s : Settings) (ok : T (accepted s)) (calls : List Send) (bytes : (c : 
   holds : lostSince d told ≡ lostAt told → Holds s sent told
   holds all = record {
     sends-taken = sends-taken s ok calls;
-    reports-taken = reports-taken chain;
+    reports-taken = reports-taken (begun .chain);
     own-frame = own-frame;
     once = once s calls;
     on-time = λ t r listed slot passed fair.
@@ -149,5 +147,5 @@ demand3 s ok senderRows receiverRows sends-exact reports-exact sendCalls bytes r
     let same = opened-sent s senderRows sendCalls ok sends-exact in
     let told = reports (openReceiverOf s receiverRows .receiver) (openReceiverOf s receiverRows .rows) reportCalls in
     subst⁻¹ (λ (sent : List SendMade). Holds s sent told) same
-    (holds s ok sendCalls bytes told (opened-chain s ok receiverRows reports-exact reportCalls) (opened-rows s)
+    (holds s ok sendCalls bytes told (opened s ok receiverRows reports-exact reportCalls)
     (subst (λ (sent : List SendMade). Faithful sent told) same faithful) (λ i τ. lost-from 0 told τ zero-le i))

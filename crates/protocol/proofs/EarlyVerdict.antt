@@ -1,16 +1,19 @@
 -- A message may be told before its last slot is reported. What arrived by then is part of what arrived later, so a message that is
 -- whole stays whole with the same bytes, as long as some word fits.
-use mathlib.Core.Path.{_≡_, sym, _∙_}
+use mathlib.Core.Path.{_≡_, refl, sym, _∙_}
+use mathlib.Core.Bool.{Bool}
 use mathlib.Core.List.{List}
 use Prim.Native.Nat.{ℕ, _+_, _*_, _≤_, _<_}
 use native.Mathlib.Omega.{arith}
+use lib.Dec.{eqb, ltb, ltb→lt, lt→ltb}
 use lib.ListN.{getD}
+use Rattle.galois.proofs.Cases.{and-left, and-right, both-pass}
 use Rattle.code.specs.declared.settings.Settings.{Settings}
 use Rattle.code.specs.Settings.{delayOf, kOf}
 use Rattle.code.specs.Fitting.{Arrived}
 use Rattle.elimination.proofs.ValueLaws.{Part, fits-part}
 use Rattle.protocol.specs.declared.Reply.the-variants as reply
-use Rattle.protocol.specs.Verdict.{arrived, verdict, bufferOf}
+use Rattle.protocol.specs.Verdict.{rowAt, reportedAt, arrived, verdict, bufferOf}
 use Rattle.protocol.specs.TwoLists.{ReportMade}
 use Rattle.protocol.specs.Meaning.{Fitting, Share, AllShare}
 use Rattle.protocol.proofs.VerdictMeaning.{shares-whole, whole-bytes, whole-list, buffer-length}
@@ -25,6 +28,17 @@ share-stays s a b part p byte x u f = record {
   is-such = f;
   all-have = λ w g. x .all-have w (g .0, fits-part s a b part w (g .1));
 }
+
+-- by the same rows, what arrived below one slot arrived below a later one
+pub arrived-below : (s : Settings) (rows : List ℕ) (due due′ t i v : ℕ) → due ≤ due′
+    → Part s (arrived s rows due t i v) (arrived s rows due′ t i v)
+unfolding arrived reportedAt
+arrived-below s rows due due′ t i v later p hp known =
+    let one : Bool = eqb (getD rows (rowAt s t i p) 0) 1 in
+    let now : t + p < due + i = ltb→lt (t + p) (due + i) (and-left (ltb (t + p) (due + i)) one known) in (
+      both-pass (ltb (t + p) (due′ + i)) one (lt→ltb (t + p) (due′ + i) (omega arith)) (and-right (ltb (t + p) (due + i)) one known),
+      refl,
+    )
 
 -- two points of the same reports, the first no later, while message t can be told
 module _ {s : Settings} {first : ℕ → List ℕ} {d : ℕ} {told : List ReportMade} {rows rows′ : List ℕ} {due due′ : ℕ}

@@ -12,17 +12,18 @@ use lib.ListN.{length, getD, replicate, length-replicate}
 use borrow.Author.Tests.{lt-ltb, le-ltb}
 use Rattle.galois.proofs.Cases.{le-or-lt}
 use Rattle.code.specs.declared.settings.Settings.{Settings}
-use Rattle.code.proofs.Shape.{Shape}
+use Rattle.code.specs.Settings.{accepted}
+use Rattle.code.proofs.Shape.{Shape, shape}
 use Rattle.protocol.specs.Lengths.{rowLen, rowCount, receiverLen}
 use Rattle.protocol.specs.Rows.{joined}
-use Rattle.protocol.specs.Calls.{Reported, movedOn, receivedZeros}
-use Rattle.protocol.specs.TwoLists.{Report, ReportMade, rowOf}
+use Rattle.protocol.specs.Calls.{Reported, movedOn, receivedZeros, openReceiverOf}
+use Rattle.protocol.specs.TwoLists.{Report, ReportMade, reports, rowOf}
 use Rattle.protocol.specs.Histories.{accepts, ReportedAs, Heard}
 use Rattle.protocol.specs.Claim.{NoCause}
 use Rattle.protocol.proofs.Rings.{since, since-first, since-slot, Ring, ring-start, ring-step}
 use Rattle.protocol.proofs.ReportRows.{length-rowOf}
 use Rattle.protocol.proofs.ReportSteps.{Taken}
-use Rattle.protocol.proofs.ReportChain.{written, Finds, Chain, done, onward, again, some-rows, length-receivedZeros}
+use Rattle.protocol.proofs.ReportChain.{written, Finds, Chain, done, onward, again, some-rows, length-receivedZeros, opened-chain}
 use Rattle.protocol.proofs.Received.{along, taken-of}
 use Rattle.protocol.proofs.Receipts.{callAt, call-of, due-from}
 use Rattle.protocol.proofs.SlotReports.{reported, reported-to, lostSince, lost-before, lost-from, either-way}
@@ -89,10 +90,16 @@ rowOfSlot s told τ = rowIn s (callAt told τ)
 abbrev pub history : Settings → (ℕ → List ℕ) → ℕ → List ReportMade → ℕ → List ℕ
 history s first d told = since (rowCount s) d first (rowOfSlot s told)
 
--- at some point of these reports, made from slot d on, slot due was due and the rows were these; they had begun as `first` says
-pub record Reached (s : Settings) (first : ℕ → List ℕ) (d : ℕ) (told : List ReportMade) (rows : List ℕ) (due : ℕ) : Type 0 where
+-- these are the reports of a receiver from slot d on, and its rows had begun as `first` says
+pub record Begun (s : Settings) (first : ℕ → List ℕ) (d : ℕ) (told : List ReportMade) : Type 0 where
+  pub shape : Shape s
   pub opening : List ℕ
   pub chain : Chain s d opening told
+  pub held : Holding s opening d first
+
+-- at some point of them slot due was due, and the rows were these
+pub record Reached (s : Settings) (first : ℕ → List ℕ) (d : ℕ) (told : List ReportMade) (rows : List ℕ) (due : ℕ) : Type 0 where
+  pub begun : Begun s first d told
   pub ring : Holding s rows due (history s first d told)
   pub reported : (τ : ℕ) → d ≤ τ → τ < due → (call : Report) × ReportedAs told τ call
 
@@ -103,28 +110,33 @@ heard-since {d = d} {told} c τ now kept =
     ⊎-elim
     (λ from.
     let (call, a) = c .reported τ from now in
-    ⊎-elim (λ lost. absurd (subst T (sym (lost-from d told τ from) ∙ kept) lost)) (λ h. h) (either-way (c .chain) τ call a))
+    ⊎-elim (λ lost. absurd (subst T (sym (lost-from d told τ from) ∙ kept) lost)) (λ h. h) (either-way (c .begun .chain) τ call a))
     (λ before. absurd (true≢false (sym (lost-before d told τ before) ∙ kept))) (le-or-lt d τ)
 
-module _ {s : Settings} {d : ℕ} {rows : List ℕ} {told : List ReportMade} (shape : Shape s) (first : ℕ → List ℕ)
-    (chain : Chain s d rows told) (opened : Holding s rows d first) where
+module _ {s : Settings} {first : ℕ → List ℕ} {d : ℕ} {told : List ReportMade} (b : Begun s first d told) where
   history-agrees : Agrees s told (history s first d told)
   unfolding rowOfSlot
   history-agrees r listed passed =
       sym
-      (since-slot (rowCount s) d first (rowOfSlot s told) (r .before .due) (due-from chain r listed)
-      ∙ ap (rowIn s) (call-of chain r listed passed))
+      (since-slot (rowCount s) d first (rowOfSlot s told) (r .before .due) (due-from (b .chain) r listed)
+      ∙ ap (rowIn s) (call-of (b .chain) r listed passed))
+
+  -- where they begin
+  pub at-first : Reached s first d told (b .opening) d
+  at-first = record {
+    begun = b;
+    ring = λ σ j low high hj.
+        b .held σ j low high hj
+        ∙ sym (ap (λ (l : List ℕ). getD l j 0) (since-first (rowCount s) d first (rowOfSlot s told) σ high));
+    reported = λ τ low high. absurd (omega arith);
+  }
 
   -- what a report found
   pub found-by : (r : ReportMade) → List·Memᴰ r told → Reached s first d told (r .rows) (r .before .due)
   found-by r listed = record {
-    opening = rows;
-    chain = chain;
-    ring = rings chain shape (history s first d told) history-agrees
-        (λ σ j low high hj.
-        opened σ j low high hj
-        ∙ sym (ap (λ (l : List ℕ). getD l j 0) (since-first (rowCount s) d first (rowOfSlot s told) σ high))) r listed;
-    reported = reported chain r listed;
+    begun = b;
+    ring = rings (b .chain) (b .shape) (history s first d told) history-agrees (at-first .ring) r listed;
+    reported = reported (b .chain) r listed;
   }
 
   -- and what an accepted one left
@@ -132,15 +144,15 @@ module _ {s : Settings} {d : ℕ} {rows : List ℕ} {told : List ReportMade} (sh
       → Reached s first d told (r .after .rows) (r .before .due + 1)
   left-by r listed passed =
       let due : ℕ = r .before .due in
-      let a = along chain r listed in
-      let t = taken-of chain r listed passed in
+      let a = along (b .chain) r listed in
+      let t = taken-of (b .chain) r listed passed in
       let h : Finds s due (r .rows) r = record { settings = a .settings; slot = refl; got = refl; exact = a .exact } in
       record {
-        opening = rows;
-        chain = chain;
+        begun = b;
         ring = rw (rows-after s due (r .rows) r h t)
-            (ring-next s due (r .rows) r (history s first d told) shape h t (history-agrees r listed passed) (found-by r listed .ring));
-        reported = reported-to chain r listed passed;
+            (ring-next s due (r .rows) r (history s first d told) (b .shape) h t (history-agrees r listed passed)
+            (found-by r listed .ring));
+        reported = reported-to (b .chain) r listed passed;
       }
 
 -- ---- the opening
@@ -172,16 +184,22 @@ first-before s d σ low high =
     (λ early. rw (mod-eq-of-lt early, le-ltb σ d low, lt-ltb σ R early)) (le-or-lt R σ)
 
 -- so its rows begin as the slots before it were
-pub begins : (s : Settings) (d : ℕ) → Holding s (joined (rowCount s) (firstRow s d)) d (rowBefore s)
+begins : (s : Settings) (d : ℕ) → Holding s (joined (rowCount s) (firstRow s d)) d (rowBefore s)
 begins s d = ring-start (rowCount s) (rowLen s) (firstRow s d) d (rowBefore s) (length-firstRow s d) (first-before s d)
 
--- the rows that an opening makes
-abbrev pub openedRows : Settings → List ℕ
-openedRows s = joined (rowCount s) (λ r. receivedZeros s)
-
--- are those of a receiver that begins at slot 0
-pub opened-rows : (s : Settings) → Holding s (openedRows s) 0 (rowBefore s)
+-- the rows that an opening makes are those of a receiver that begins at slot 0
+opened-rows : (s : Settings) → Holding s (joined (rowCount s) (λ r. receivedZeros s)) 0 (rowBefore s)
 unfolding firstRow
 opened-rows s =
     let all : firstRow s 0 ≡ (λ r. receivedZeros s) = λ i r. cond (le-ltb r 0 zero-le i) (replicate (rowLen s) 0) (receivedZeros s) in
     subst (λ (row : ℕ → List ℕ). Holding s (joined (rowCount s) row) 0 (rowBefore s)) all (begins s 0)
+
+-- so the reports after it begin there
+pub opened : (s : Settings) → T (accepted s) → (rows : List ℕ) → length rows ≡ receiverLen s → (calls : List Report)
+    → Begun s (rowBefore s) 0 (reports (openReceiverOf s rows .receiver) (openReceiverOf s rows .rows) calls)
+opened s ok rows exact calls = record {
+  shape = shape s ok;
+  opening = joined (rowCount s) (λ r. receivedZeros s);
+  chain = opened-chain s ok rows exact calls;
+  held = opened-rows s;
+}

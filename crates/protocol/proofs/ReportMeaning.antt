@@ -9,7 +9,6 @@ use lib.Dec.{T, ltb, ltb→lt, lt→ltb}
 use lib.ListN.{getD}
 use Rattle.code.specs.declared.settings.Settings.{Settings}
 use Rattle.code.specs.Settings.{delayOf}
-use Rattle.code.proofs.Shape.{shape}
 use Rattle.protocol.specs.declared.Receiver.{Receiver}
 use Rattle.protocol.specs.declared.Reply.{Reply}
 use Rattle.protocol.specs.declared.Reply.the-variants as reply
@@ -27,9 +26,8 @@ use Rattle.protocol.specs.Meaning.{AllShare, Tells, AcceptedReport, Dema
 use Rattle.protocol.proofs.NumberLaws.{reply-tells}
 use Rattle.protocol.proofs.VerdictMeaning.{verdict-clash, verdict-lost, verdict-else, whole-bytes, buffer-length, buffer-zeros}
 use Rattle.protocol.proofs.ReportSteps.{heard-moves, heard-stays, loss-moves, loss-stays}
-use Rattle.protocol.proofs.ReportChain.{opened-chain}
 use Rattle.protocol.proofs.Received.{ByVerdict, by-verdict}
-use Rattle.protocol.proofs.ReceivedRows.{Reached, left-by, rowBefore, opened-rows}
+use Rattle.protocol.proofs.ReceivedRows.{Reached, left-by, rowBefore, opened}
 use Rattle.protocol.proofs.Arrivals.{known-came}
 
 -- ---- none yet
@@ -120,7 +118,7 @@ demand2-verdict = record {
       let told = reports (openReceiverOf s rows .receiver) (openReceiverOf s rows .rows) calls in
       let reached : Reached s (rowBefore s) 0 told (r .after .rows) (t + delayOf s + 1)
       = subst (λ (due : ℕ). Reached s (rowBefore s) 0 told (r .after .rows) (due + 1)) slot
-      (left-by (shape s ok) (rowBefore s) (opened-chain s ok rows exact calls) (opened-rows s) r listed passed) in
+      (left-by (opened s ok rows exact calls) r listed passed) in
       let (says, came) = known-came reached t (omega arith) i p v hi hp hv byte in
       ((λ k. let (now, from) = says k in (omega arith, from)), λ (to, from). came (omega arith, from));
 }

@@ -51,7 +51,7 @@ module _ {s : Settings} {first : ℕ → List ℕ} {d : ℕ} {told : List Report
   row-reported h call a =
       ap (history s first d told) (omega arith)
       ∙ since-slot (rowCount s) d first (rowOfSlot s told) (t + p - i) (omega arith)
-      ∙ ap (rowIn s) (call-as (c .chain) (t + p - i) call a)
+      ∙ ap (rowIn s) (call-as (c .begun .chain) (t + p - i) call a)
 
 -- ---- what became of a slot
 
@@ -75,7 +75,7 @@ module _ {s : Settings} {d : ℕ} {told : List ReportMade} {rows : List ℕ} {du
   unfolding rowOf
   by-report h (Report.heard f m) a = Became.heard f (omega arith) record { message = m; by = a }
   by-report h (Report.missed m) a =
-      Became.lost (omega arith) (lost-from d told (t + p - i) (omega arith) ∙ lost-as (c .chain) (t + p - i) (Report.missed m) a)
+      Became.lost (omega arith) (lost-from d told (t + p - i) (omega arith) ∙ lost-as (c .begun .chain) (t + p - i) (Report.missed m) a)
 
   -- each slot that was reported, or is before the first one, is one of these
   pub became : t + p < due + i → Became s d told t i p (slotRow s (rowBefore s) d told t i p)
