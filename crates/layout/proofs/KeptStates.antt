@@ -10,13 +10,16 @@ use lib.ListN.{length}
 use borrow.Author.Tests.{eq-eqb}
 use Rattle.galois.specs.Bounded.{every}
 use Rattle.code.specs.declared.settings.Settings.{Settings}
+use Rattle.protocol.specs.declared.Sender.{Sender}
+use Rattle.protocol.specs.declared.Receiver.{Receiver}
 use Rattle.protocol.specs.declared.Cause.the-variants.{BadLength}
 use Rattle.protocol.specs.Lengths.{lastSlot}
 use Rattle.protocol.specs.Frame.{five, slotBytes}
 use Rattle.protocol.specs.declared.Answer.the-variants as answer
 use Rattle.protocol.specs.Causes.{agree}
 use Rattle.protocol.proofs.CauseTables.{none-holds, passes}
-use Rattle.layout.specs.State.{markOf, stateBytes, stateLen, settingsAt, slotAt, senderIn, receiverIn, stateTable, stateCause}
+use Rattle.layout.specs.State.{senderEnd, receiverEnd, markOf, stateBytes, senderBytes, receiverBytes, stateLen}
+use Rattle.layout.specs.State.{settingsAt, slotAt, senderIn, receiverIn, stateTable, stateCause}
 use Rattle.layout.proofs.StateBytes.{length-state}
 
 -- ---- reading back what was written
@@ -48,15 +51,15 @@ module _ (end : ℕ) (s : Settings) (due : ℕ) where
   unfolding stateCause
   state-uncaused = rw (eq-eqb _ _ (length-state end s due), marked)
 
-  -- and keeps the sender
-  pub sender-in-state : due ≤ lastSlot + 1 → senderIn (stateBytes end s due) ≡ record { settings = s; due = due }
-  unfolding senderIn
-  sender-in-state few = rw (settings-read, slot-read few) refl
+-- and keeps the sender
+pub sender-in-state : (x : Sender) → x .due ≤ lastSlot + 1 → senderIn (senderBytes x) ≡ x
+unfolding senderIn
+sender-in-state x few = let s = x .settings in rw (settings-read senderEnd s (x .due), slot-read senderEnd s (x .due) few) refl
 
-  -- or the receiver that it was written from
-  pub receiver-in-state : due ≤ lastSlot + 1 → receiverIn (stateBytes end s due) ≡ record { settings = s; due = due }
-  unfolding receiverIn
-  receiver-in-state few = rw (settings-read, slot-read few) refl
+-- or the receiver that it was written from
+pub receiver-in-state : (x : Receiver) → x .due ≤ lastSlot + 1 → receiverIn (receiverBytes x) ≡ x
+unfolding receiverIn
+receiver-in-state x few = let s = x .settings in rw (settings-read receiverEnd s (x .due), slot-read receiverEnd s (x .due) few) refl
 
 -- ---- the causes that a state gives
 

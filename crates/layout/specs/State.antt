@@ -8,6 +8,7 @@ use Rattle.code.specs.declared.settings.Settings.{Settings}
 use Rattle.protocol.specs.declared.Sender.{Sender}
 use Rattle.protocol.specs.declared.Receiver.{Receiver}
 use Rattle.protocol.specs.declared.Cause.the-variants.{BadSettings, BadLength}
+use Rattle.protocol.specs.States.{senderAt, receiverAt}
 use Rattle.protocol.specs.Frame.{five, slotBytes}
 use Rattle.protocol.specs.declared.Answer.{Answer}
 use Rattle.protocol.specs.Causes.{Row, row, firstOf, agree}
@@ -29,6 +30,13 @@ markOf end = 0x54 ∷ 0x4f ∷ 0x42 ∷ end ∷ []
 -- a state: its mark, W, T, B, N and L, and the slot due, high byte first
 unfoldable pub stateBytes : ℕ → Settings → ℕ → List ℕ
 stateBytes end s due = markOf end ++ five s ++ slotBytes due
+
+-- the state of this sender, and of this receiver
+abbrev pub senderBytes : Sender → List ℕ
+senderBytes x = stateBytes senderEnd (x .settings) (x .due)
+
+abbrev pub receiverBytes : Receiver → List ℕ
+receiverBytes x = stateBytes receiverEnd (x .settings) (x .due)
 
 -- a state's length
 abbrev pub stateLen : ℕ
@@ -57,11 +65,11 @@ slotAt start bytes =
 
 -- the sender that a state keeps
 unfoldable pub senderIn : List ℕ → Sender
-senderIn state = record { settings = settingsAt 4 state; due = slotAt 9 state }
+senderIn state = senderAt (settingsAt 4 state) (slotAt 9 state)
 
 -- the receiver that a state keeps
 unfoldable pub receiverIn : List ℕ → Receiver
-receiverIn state = record { settings = settingsAt 4 state; due = slotAt 9 state }
+receiverIn state = receiverAt (settingsAt 4 state) (slotAt 9 state)
 
 -- ---- what a state is refused for
 

@@ -60,10 +60,7 @@ pub fn sender_in(state: &[u8]) -> Sender
     requires { ⌜ stateLen ≤ length (now state) ⌝ }
     ensures { λ r. ⌜ r ≡ senderIn (now (state .entry)) ⌝ }
 {
-    Sender {
-        settings: settings_at(state, 4),
-        due: slot_at(state, 9),
-    }
+    Sender::at(settings_at(state, 4), slot_at(state, 9))
 }
 
 // The receiver that a state keeps.
@@ -71,10 +68,7 @@ pub fn receiver_in(state: &[u8]) -> Receiver
     requires { ⌜ stateLen ≤ length (now state) ⌝ }
     ensures { λ r. ⌜ r ≡ receiverIn (now (state .entry)) ⌝ }
 {
-    Receiver {
-        settings: settings_at(state, 4),
-        due: slot_at(state, 9),
-    }
+    Receiver::at(settings_at(state, 4), slot_at(state, 9))
 }
 
 // The mark of a state of this end.

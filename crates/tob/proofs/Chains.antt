@@ -16,6 +16,7 @@ use Rattle.protocol.specs.declared.Answer.{Answer}
 use Rattle.protocol.specs.declared.Answer.the-variants as answer
 use Rattle.protocol.specs.Causes.{lossCause, frameCause}
 use Rattle.protocol.specs.Lengths.{lastSlot, senderLen, receiverLen}
+use Rattle.protocol.specs.States.{openedSender, sentOn, openedReceiver, reportedOn}
 use Rattle.protocol.specs.Calls.{OpenedSender, OpenedReceiver, Sent, Reported, openSenderOf, openReceiverOf, sendOf, movedOn, lossOf, heardOf}
 use Rattle.protocol.specs.Histories.{accepts}
 use Rattle.protocol.specs.TwoLists.{Send, SendMade, sends, Report, heard, missed, reportOf, ReportMade, reports}
@@ -25,7 +26,7 @@ use Rattle.protocol.proofs.ReportCauses.{loss-open, frame-open}
 use Rattle.protocol.proofs.ReportRows.{moved-accepts}
 use Rattle.protocol.proofs.ReportSteps as steps
 use Rattle.protocol.proofs.ReportChain as reporting
-use Rattle.layout.specs.State.{senderEnd, receiverEnd, stateBytes, saved, stateLen, settingsAt, senderIn, receiverIn, stateCause}
+use Rattle.layout.specs.State.{senderEnd, receiverEnd, senderBytes, receiverBytes, saved, stateLen, settingsAt, senderIn, receiverIn, stateCause}
 use Rattle.protocol.specs.Numbers.{answerNumber, replyNumber}
 use Rattle.layout.proofs.KeptStates.{state-uncaused, sender-in-state, receiver-in-state}
 use Rattle.layout.proofs.Refusals.{cause-refused, reply-accepted}
@@ -41,8 +42,8 @@ pub record KeepsSender (state : List ℕ) (x : Sender) : Type 0 where
   pub reads : senderIn state ≡ x
 
 -- a state that was written keeps what it was written from
-kept-sender : (s : Settings) (due : ℕ) → due ≤ lastSlot + 1 → KeepsSender (stateBytes senderEnd s due) (record { settings = s; due = due })
-kept-sender s due few = record { uncaused = state-uncaused senderEnd s due; reads = sender-in-state senderEnd s due few }
+kept-sender : (x : Sender) → x .due ≤ lastSlot + 1 → KeepsSender (senderBytes x) x
+kept-sender x few = record { uncaused = state-uncaused senderEnd (x .settings) (x .due); reads = sender-in-state x few }
 
 -- an opening with accepted settings and exact lengths replies 0, and the next call reads the sender that it opened
 pub opened-sender-read : (settings state rows : List ℕ) → T (accepted (settingsOf settings)) → length state ≡ stateLen
@@ -61,7 +62,7 @@ opened-sender-read settings state rows ok room full =
     (λ (r : OpenedSender).
     (senderLeft state r .reply ≡ 0) × (senderLeft state r .rows ≡ r .rows) × KeepsSender (senderLeft state r .state) (r .sender))
     (sending.opened-sender s rows ok full)
-    (refl, refl, kept-sender s 0 (omega arith)))
+    (refl, refl, kept-sender (openedSender s) (omega arith)))
 
 -- a send by the library: what it leaves, the sender that the next call reads, and the slot due then
 pub record SendStep (state rows message frame : List ℕ) (x : Sender) : Type 0 where
@@ -78,7 +79,7 @@ module _ (state rows message frame : List ℕ) (none : stateCause senderEnd stat
 
   -- by whether the send is taken
   sent-next : sending.SendCase x rows message frame → Next (sendOf x rows message frame)
-  sent-next (sending.taken h e) = subst⁻¹ Next e (kept-sender (x .settings) (x .due + 1) (omega (arith, h .in-time)), refl)
+  sent-next (sending.taken h e) = subst⁻¹ Next e (kept-sender (sentOn x) (omega (arith, h .in-time)), refl)
   sent-next (sending.refused c _ e) =
       subst⁻¹ Next e (record { uncaused = none; reads = refl }, ap (λ (t : Bool). cond t (x .due + 1) (x .due)) (sym (cause-refused c)))
 
@@ -133,9 +134,8 @@ pub record KeepsReceiver (state : List ℕ) (y : Receiver) : Type 0 where
   pub uncaused : stateCause receiverEnd state ≡ answer.Accepted
   pub reads : receiverIn state ≡ y
 
-kept-receiver : (s : Settings) (due : ℕ) → due ≤ lastSlot + 1
-    → KeepsReceiver (stateBytes receiverEnd s due) (record { settings = s; due = due })
-kept-receiver s due few = record { uncaused = state-uncaused receiverEnd s due; reads = receiver-in-state receiverEnd s due few }
+kept-receiver : (y : Receiver) → y .due ≤ lastSlot + 1 → KeepsReceiver (receiverBytes y) y
+kept-receiver y few = record { uncaused = state-uncaused receiverEnd (y .settings) (y .due); reads = receiver-in-state y few }
 
 -- an opening with accepted settings and exact lengths replies 0, and the next call reads the receiver that it opened
 pub opened-receiver-read : (settings state rows : List ℕ) → T (accepted (settingsOf settings)) → length state ≡ stateLen
@@ -155,7 +155,7 @@ opened-receiver-read settings state rows ok room full =
     (receiverLeft state r .reply ≡ 0) × (receiverLeft state r .rows ≡ r .rows)
     × KeepsReceiver (receiverLeft state r .state) (r .receiver))
     (reporting.opened-receiver s ok rows full)
-    (refl, refl, kept-receiver s 0 (omega arith)))
+    (refl, refl, kept-receiver (openedReceiver s) (omega arith)))
 
 -- a report by the library: what it leaves, the receiver that the next call reads, and the slot due then
 pub record ReportStep (state rows : List ℕ) (call : Report) (y : Receiver) : Type 0 where
@@ -181,7 +181,7 @@ module _ (state rows : List ℕ) (none : stateCause receiverEnd state ≡ answer
       let r : Reported = movedOn y row rows in
       let passed : accepts (r .reply) ≡ true = is-true (accepts (r .reply)) (moved-accepts y row rows) in (
         subst⁻¹ (λ (t : Bool). KeepsReceiver (saved t receiverEnd (y .settings) (y .due + 1) state) (r .receiver)) passed
-            (kept-receiver (y .settings) (y .due + 1) (omega arith)),
+            (kept-receiver (reportedOn y) (omega arith)),
         ap (λ (t : Bool). cond t (y .due + 1) (y .due)) (sym (reply-accepted (r .reply) ∙ passed)),
       )
 

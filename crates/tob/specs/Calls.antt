@@ -9,7 +9,7 @@ use Rattle.protocol.specs.Lengths.{senderLen, receiverLen}
 use Rattle.protocol.specs.declared.Answer.the-variants as answer
 use Rattle.protocol.specs.Causes.{numberOf}
 use Rattle.protocol.specs.Calls.{OpenedSender, OpenedReceiver, Sent, Reported, openSenderOf, sendOf, openReceiverOf, heardOf, lossOf}
-use Rattle.layout.specs.State.{senderEnd, receiverEnd, stateBytes, settingsAt, senderIn, receiverIn}
+use Rattle.layout.specs.State.{senderBytes, receiverBytes, settingsAt, senderIn, receiverIn}
 use Rattle.protocol.specs.Numbers.{answerNumber, replyNumber}
 use Rattle.tob.specs.Causes.{openBytesCause, sendBytesCause, heardBytesCause, lostBytesCause}
 
@@ -35,7 +35,7 @@ pub record Opening : Type 0 where
 abbrev pub openedSender : OpenedSender → Opening
 openedSender r = record {
   reply = answerNumber (r .answer);
-  state = stateBytes senderEnd (r .sender .settings) (r .sender .due);
+  state = senderBytes (r .sender);
   rows = r .rows;
 }
 
@@ -52,7 +52,7 @@ openSenderBytes settings state rows =
 abbrev pub openedReceiver : OpenedReceiver → Opening
 openedReceiver r = record {
   reply = answerNumber (r .answer);
-  state = stateBytes receiverEnd (r .receiver .settings) (r .receiver .due);
+  state = receiverBytes (r .receiver);
   rows = r .rows;
 }
 
@@ -78,7 +78,7 @@ pub record Sending : Type 0 where
 abbrev pub sentBytes : Sent → Sending
 sentBytes r = record {
   reply = answerNumber (r .answer);
-  state = stateBytes senderEnd (r .sender .settings) (r .sender .due);
+  state = senderBytes (r .sender);
   rows = r .rows;
   frame = r .frame;
 }
@@ -104,7 +104,7 @@ pub record Reporting : Type 0 where
 abbrev pub reportedBytes : Reported → Reporting
 reportedBytes r = record {
   reply = replyNumber (r .reply);
-  state = stateBytes receiverEnd (r .receiver .settings) (r .receiver .due);
+  state = receiverBytes (r .receiver);
   rows = r .rows;
   message = r .message;
 }

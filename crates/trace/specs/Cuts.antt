@@ -5,6 +5,7 @@ use lib.ListN.{length, take, drop}
 use Rattle.code.specs.declared.settings.Settings.{Settings}
 use Rattle.protocol.specs.declared.Sender.{Sender}
 use Rattle.protocol.specs.declared.Receiver.{Receiver}
+use Rattle.protocol.specs.States.{senderAt, receiverAt}
 use Rattle.protocol.specs.Calls.{Reported, openSenderOf, sendOf, openReceiverOf, heardOf, lossOf}
 use Rattle.trace.specs.declared.lent.Call.{Call}
 
@@ -56,7 +57,7 @@ pub record Sending : Type 0 where
 unfoldable pub sendCut : Call → List ℕ → List ℕ → List ℕ → Sending
 sendCut c rows message frame =
     let o =
-    sendOf (record { settings = c .settings; due = c .due }) (before (c .rows) rows) (before (c .first) message)
+    sendOf (senderAt (c .settings) (c .due)) (before (c .rows) rows) (before (c .first) message)
     (before (c .second) frame) in
     record { sender = o .sender; rows = o .rows ++ behind (c .rows) rows; frame = o .frame ++ behind (c .second) frame }
 
@@ -76,7 +77,7 @@ reportCut o rows buffer = record { receiver = o .receiver; rows = o .rows ++ row
 unfoldable pub heardCut : Call → List ℕ → List ℕ → List ℕ → Reporting
 heardCut c rows frame buffer =
     reportCut
-    (heardOf (record { settings = c .settings; due = c .due }) (before (c .rows) rows) (before (c .first) frame)
+    (heardOf (receiverAt (c .settings) (c .due)) (before (c .rows) rows) (before (c .first) frame)
     (before (c .second) buffer))
     (behind (c .rows) rows)
     (behind (c .second) buffer)
@@ -85,6 +86,6 @@ heardCut c rows frame buffer =
 unfoldable pub lossCut : Call → List ℕ → List ℕ → Reporting
 lossCut c rows buffer =
     reportCut
-    (lossOf (record { settings = c .settings; due = c .due }) (before (c .rows) rows) (before (c .first) buffer))
+    (lossOf (receiverAt (c .settings) (c .due)) (before (c .rows) rows) (before (c .first) buffer))
     (behind (c .rows) rows)
     (behind (c .first) buffer)

@@ -70,11 +70,7 @@ pub fn send(call: Call, rows: &mut [u8], message: &[u8], frame: &mut [u8]) -> Se
         ≡ sendCut call (now (rows .entry)) (now (message .entry)) (now (frame .entry))
         ⌝ }
 {
-    let s = call.settings;
-    let x = Sender {
-        settings: s,
-        due: call.due,
-    };
+    let x = Sender::at(call.settings, call.due);
     let rows_end = end(rows.len(), call.rows);
     let message_end = end(message.len(), call.first);
     let frame_end = end(frame.len(), call.second);
@@ -95,11 +91,7 @@ pub fn heard(call: Call, rows: &mut [u8], frame: &[u8], buffer: &mut [u8]) -> Re
         ≡ heardCut call (now (rows .entry)) (now (frame .entry)) (now (buffer .entry))
         ⌝ }
 {
-    let s = call.settings;
-    let x = Receiver {
-        settings: s,
-        due: call.due,
-    };
+    let x = Receiver::at(call.settings, call.due);
     let rows_end = end(rows.len(), call.rows);
     let frame_end = end(frame.len(), call.first);
     let buffer_end = end(buffer.len(), call.second);
@@ -120,11 +112,7 @@ pub fn loss(call: Call, rows: &mut [u8], buffer: &mut [u8]) -> Receiver
         ≡ lossCut call (now (rows .entry)) (now (buffer .entry))
         ⌝ }
 {
-    let s = call.settings;
-    let x = Receiver {
-        settings: s,
-        due: call.due,
-    };
+    let x = Receiver::at(call.settings, call.due);
     let rows_end = end(rows.len(), call.rows);
     let buffer_end = end(buffer.len(), call.first);
     let reported = receiver::loss(x, &mut rows[0..rows_end], &mut buffer[0..buffer_end]);
