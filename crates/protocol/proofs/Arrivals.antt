@@ -6,7 +6,7 @@ use mathlib.Core.Logic.{_↔_, ⊎-elim}
 use Prim.Native.Nat.{ℕ, suc, _+_, _-_, _*_, _≤_, _<_}
 use native.Mathlib.Nat.{mul-le-mul-right, suc-mul}
 use native.Mathlib.Omega.{arith}
-use lib.Dec.{T, eqb, eqb→eq, eqb-refl, ltb, ltb→lt, lt→ltb}
+use lib.Dec.{T, eqb, eqb→eq, eqb-refl, ltb→lt, lt→ltb}
 use lib.ListN.{getD, drop, replicate, length-replicate, getD-replicate, List·getD-eq-default}
 use lib.Seq.{getD-drop}
 use borrow.Author.Tests.{le-leb}
@@ -43,6 +43,11 @@ position-late : (lost : ℕ → Bool) (t i p : ℕ) → i ≤ t + p → lostPosi
 unfolding lostPosition
 position-late lost t i p h = rw (le-leb i (t + p) h)
 
+-- the slot of a position was reported exactly if it is below the slot due
+pub below-due : (due t i p : ℕ) → T (reportedAt due t i p) ↔ (t + p < due + i)
+unfolding reportedAt
+below-due due t i p = (λ k. omega (arith, ltb→lt (t + p) _ k), λ h. lt→ltb (t + p) _ (omega arith))
+
 -- the byte of lane v at position p, in a row of received zeros and in that of a frame
 early-byte : (s : Settings) (q : ℕ) → getD (receivedZeros s) (1 + q) 0 ≡ 0
 unfolding receivedZeros
@@ -74,17 +79,16 @@ module _ {s : Settings} {first : ℕ → List ℕ} {d : ℕ} {told : List Report
     (c : Reached s first d told rows due) (t : ℕ) (to : due ≤ t + delayOf s + 1) (i p v : ℕ) (hi : i < kOf s) where
   -- a position is known exactly if its slot was reported and its row says received
   pub known-flag : T (arrived s rows due t i v .known p) ↔ ((t + p < due + i) × (getD (slotRow s first d told t i p) 0 0 ≡ 1))
-  unfolding arrived reportedAt
+  unfolding arrived
   known-flag =
       let one : Bool = eqb (getD rows (rowAt s t i p) 0) 1 in (
         λ k.
-            let now : t + p < due + i = ltb→lt (t + p) (due + i) (and-left (ltb (t + p) (due + i)) one k) in
+            let now : t + p < due + i = below-due due t i p .0 (and-left (reportedAt due t i p) one k) in
             let flag : getD rows (rowAt s t i p) 0 ≡ 1
-            = eqb→eq (getD rows (rowAt s t i p) 0) 1 (and-right (ltb (t + p) (due + i)) one k) in
+            = eqb→eq (getD rows (rowAt s t i p) 0) 1 (and-right (reportedAt due t i p) one k) in
             (now, sym (flag-says c t i p hi to now) ∙ flag),
         λ (now, flag).
-            both-pass (ltb (t + p) (due + i)) one (lt→ltb (t + p) (due + i) now)
-            (rw (flag-says c t i p hi to now ∙ flag) (eqb-refl 1)),
+            both-pass (reportedAt due t i p) one (below-due due t i p .1 now) (rw (flag-says c t i p hi to now ∙ flag) (eqb-refl 1)),
       )
 
   -- and its byte stands in that row

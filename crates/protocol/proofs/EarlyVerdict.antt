@@ -5,7 +5,7 @@ use mathlib.Core.Bool.{Bool}
 use mathlib.Core.List.{List}
 use Prim.Native.Nat.{ℕ, _+_, _*_, _≤_, _<_}
 use native.Mathlib.Omega.{arith}
-use lib.Dec.{eqb, ltb, ltb→lt, lt→ltb}
+use lib.Dec.{eqb}
 use lib.ListN.{getD}
 use Rattle.galois.proofs.Cases.{and-left, and-right, both-pass}
 use Rattle.code.specs.declared.settings.Settings.{Settings}
@@ -18,7 +18,7 @@ use Rattle.protocol.specs.TwoLists.{ReportMade}
 use Rattle.protocol.specs.Meaning.{Fitting, Share, AllShare}
 use Rattle.protocol.proofs.VerdictMeaning.{shares-whole, whole-bytes, whole-list, buffer-length}
 use Rattle.protocol.proofs.ReceivedRows.{Reached}
-use Rattle.protocol.proofs.Arrivals.{known-flag, byte-says}
+use Rattle.protocol.proofs.Arrivals.{below-due, known-flag, byte-says}
 
 -- a byte that the fitting words share stays shared when more arrives, as long as some word fits
 pub share-stays : (s : Settings) (a b : Arrived) → Part s a b → (p byte : ℕ) → Share s (Fitting s a) p byte
@@ -32,11 +32,11 @@ share-stays s a b part p byte x u f = record {
 -- by the same rows, what arrived below one slot arrived below a later one
 pub arrived-below : (s : Settings) (rows : List ℕ) (due due′ t i v : ℕ) → due ≤ due′
     → Part s (arrived s rows due t i v) (arrived s rows due′ t i v)
-unfolding arrived reportedAt
+unfolding arrived
 arrived-below s rows due due′ t i v later p hp known =
     let one : Bool = eqb (getD rows (rowAt s t i p) 0) 1 in
-    let now : t + p < due + i = ltb→lt (t + p) (due + i) (and-left (ltb (t + p) (due + i)) one known) in (
-      both-pass (ltb (t + p) (due′ + i)) one (lt→ltb (t + p) (due′ + i) (omega arith)) (and-right (ltb (t + p) (due + i)) one known),
+    let now : t + p < due + i = below-due due t i p .0 (and-left (reportedAt due t i p) one known) in (
+      both-pass (reportedAt due′ t i p) one (below-due due′ t i p .1 (omega arith)) (and-right (reportedAt due t i p) one known),
       refl,
     )
 
