@@ -28,7 +28,8 @@ use Rattle.protocol.specs.Calls.{OpenedReceiver, receivedZeros, openReceiverOf,
 use Rattle.protocol.specs.TwoLists.{Report, heard, missed, reportOf}
 use Rattle.protocol.proofs.QuickVerdict.{quickSymbol, verdictBy, bufferBy, quickReply, quickMoved, quickReport}
 use Rattle.protocol.proofs.QuickVerdict.{small, smallFrames, quick-report}
-use Rattle.lines.specs.Text.{decimal, decimalUpTo, stopLine, lineOf}
+use Rattle.numbers.specs.Digits.{decimal, decimalUpTo}
+use Rattle.lines.specs.Text.{stopLine, lineOf}
 use Rattle.stops.specs.Stops.{settingsIn, recordingCause, slotIn, frameStop}
 use Rattle.steps.specs.Steps.{refuses}
 use Rattle.player.specs.Transcript.{Rest, andThen, skipped, played, pieces, playedFrom, transcript}

@@ -10,7 +10,7 @@ use borrow.Author.Tests.{lt-ltb, le-ltb, ltb-false}
 use Rattle.protocol.specs.declared.Cause.{Cause}
 use Rattle.protocol.specs.declared.Reply.{Reply}
 use Rattle.lines.specs.Text.{stopLine, lineOf, written}
-use Rattle.lines.specs.Lent.{longest, Line, lineOn, stopOn}
+use Rattle.lines.specs.Lent.{longest, Line, lineOn, stopRoom, stopOn}
 use Rattle.lines.proofs.TextLaws.{stop-length}
 
 -- ---- the line of a report
@@ -39,17 +39,17 @@ module _ (about : ℕ) (reply : Reply) (message line : List ℕ) where
 
 module _ (c : Cause) (line : List ℕ) where
   -- without room it stays as it was
-  pub stop-stays : length line < 7 → record { line = line; len = 0 } ≡ stopOn c line
+  pub stop-stays : length line < stopRoom → record { line = line; len = 0 } ≡ stopOn c line
   unfolding stopOn
-  stop-stays h = rw (lt-ltb (length line) 7 h, stopOn)
+  stop-stays h = rw (lt-ltb (length line) stopRoom h, stopOn)
 
   -- with room the text is written
-  pub stop-lent : 7 ≤ length line → record { line = written (stopLine c) line; len = length (stopLine c) } ≡ stopOn c line
+  pub stop-lent : stopRoom ≤ length line → record { line = written (stopLine c) line; len = length (stopLine c) } ≡ stopOn c line
   unfolding stopOn
-  stop-lent h = rw (le-ltb (length line) 7 h, stopOn)
+  stop-lent h = rw (le-ltb (length line) stopRoom h, stopOn)
 
   -- so these are the parts of what is given back
-  pub stop-parts : (now : List ℕ) (len : ℕ) → record { line = now; len = len } ≡ stopOn c line → 7 ≤ length line
+  pub stop-parts : (now : List ℕ) (len : ℕ) → record { line = now; len = len } ≡ stopOn c line → stopRoom ≤ length line
       → (len ≡ length (stopLine c)) × (now ≡ written (stopLine c) line)
   stop-parts now len e h =
       let lent = e ∙ sym (stop-lent h) in
@@ -58,8 +58,8 @@ module _ (c : Cause) (line : List ℕ) where
   -- what is written fits
   pub stop-fits : stopOn c line .len ≤ length line
   unfolding stopOn
-  stop-fits = go (ltb (length line) 7) refl
+  stop-fits = go (ltb (length line) stopRoom) refl
     where
-      go : (b : Bool) → ltb (length line) 7 ≡ b → stopOn c line .len ≤ length line
+      go : (b : Bool) → ltb (length line) stopRoom ≡ b → stopOn c line .len ≤ length line
       go true is = rw (is, stopOn) (omega arith)
-      go false is = rw (is, stopOn) (omega (arith, stop-length c, ltb-false (length line) 7 is))
+      go false is = rw (is, stopOn) (omega (arith, stop-length c, ltb-false (length line) stopRoom is))

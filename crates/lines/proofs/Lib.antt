@@ -1,6 +1,4 @@
 -- The laws that the functions' proofs cite, and those that a caller cites.
-pub mod Decimals
-pub mod HexDigits
 pub mod TextLaws
 pub mod TextCases
 pub mod WrittenLines

@@ -3,22 +3,8 @@ use mathlib.Core.Path.{_≡_, refl}
 use mathlib.Core.List.{[], _∷_}
 use Rattle.protocol.specs.declared.Reply.the-variants.{Whole}
 use Rattle.protocol.specs.declared.Cause.the-variants.{OtherSlot}
-use Rattle.lines.specs.Text.{decimalUpTo, decimal, stopLine, lineOf}
-
--- `0`
-number-zero : decimal 0 ≡ 48 ∷ []
-unfolding decimal decimalUpTo
-number-zero = refl
-
--- `10`
-number-ten : decimal 10 ≡ 49 ∷ 48 ∷ []
-unfolding decimal decimalUpTo
-number-ten = refl
-
--- `3999999999`, the last slot
-number-last : decimal 3999999999 ≡ 51 ∷ 57 ∷ 57 ∷ 57 ∷ 57 ∷ 57 ∷ 57 ∷ 57 ∷ 57 ∷ 57 ∷ []
-unfolding decimal decimalUpTo
-number-last = refl
+use Rattle.numbers.specs.Digits.{decimalUpTo, decimal}
+use Rattle.lines.specs.Text.{stopLine, lineOf}
 
 -- `12 whole 09ab`
 whole-line : lineOf 12 Whole (9 ∷ 171 ∷ []) ≡ 49 ∷ 50 ∷ 32 ∷ 119 ∷ 104 ∷ 111 ∷ 108 ∷ 101 ∷ 32 ∷ 48 ∷ 57 ∷ 97 ∷ 98 ∷ 10 ∷ []
@@ -27,5 +13,5 @@ whole-line = refl
 
 -- `stop 6`
 stop-line : stopLine OtherSlot ≡ 115 ∷ 116 ∷ 111 ∷ 112 ∷ 32 ∷ 54 ∷ 10 ∷ []
-unfolding stopLine
+unfolding stopLine decimal decimalUpTo
 stop-line = refl

@@ -1,16 +1,21 @@
 -- Text written over the start of a line: one text after another, and the lengths.
-use mathlib.Core.Path.{_≡_, refl, sym, ap, ap₂, _∙_}
+use mathlib.Core.Path.{_≡_, sym, ap, ap₂, _∙_}
 use mathlib.Core.List.{List, [], _∷_, _++_}
-use Prim.Native.Nat.{ℕ, suc, _+_, _*_, _≤_, _<_}
+use Prim.Native.Nat.{ℕ, _+_, _*_, _≤_, _<_, zero-le}
+use native.Mathlib.Nat.{zero-add}
 use native.Mathlib.Omega.{arith}
-use lib.ListN.{length, getD, set, take, drop, length-append, length-drop}
-use lib.Seq.{take-append-seam, drop-append-add, drop-drop, drop-cons, set-append-seam, append-snoc}
+use lib.ListN.{length, set, take, drop, length-append, length-drop}
+use lib.Seq.{take-append-seam}
 use Rattle.protocol.specs.declared.Cause.{Cause}
 use Rattle.protocol.specs.declared.Reply.{Reply}
 use Rattle.protocol.specs.declared.Reply.the-variants.{Refused, NoneYet, Whole, Lost, Clash}
+use Rattle.protocol.specs.Causes.{numberOf}
+use Rattle.numbers.specs.Digits.{put}
+use Rattle.numbers.proofs.Decimals.{decimal-length}
+use Rattle.numbers.proofs.HexDigits.{hex-length}
+use Rattle.numbers.proofs.Putting.{put-more, put-one}
 use Rattle.lines.specs.Text.{stopLine, lineOf, written}
-use Rattle.lines.proofs.Decimals.{decimal-length}
-use Rattle.lines.proofs.HexDigits.{hex-length}
+use Rattle.lines.specs.Lent.{stopRoom}
 
 -- a text written over a line leaves its length
 pub written-length : (text line : List ℕ) → length text ≤ length line → length (written text line) ≡ length line
@@ -22,34 +27,29 @@ pub written-text : (text line : List ℕ) → take (length text) (written text l
 unfolding written
 written-text text line = take-append-seam text (drop (length text) line)
 
+-- it is put there
+pub put-written : (text line : List ℕ) → put 0 text line ≡ written text line
+unfolding put written
+put-written text line = ap (λ (k : ℕ). text ++ drop k line) (zero-add (length text))
+
 -- a text, and then another from its end, is both written
-pub written-more : (text more line : List ℕ)
-    → take (length text) (written text line) ++ more ++ drop (length text + length more) (written text line)
-    ≡ written (text ++ more) line
-unfolding written
+pub written-more : (text more line : List ℕ) → put (length text) more (written text line) ≡ written (text ++ more) line
 written-more text more line =
-    let rest : List ℕ = drop (length text) line in
-    ap₂ (λ (a b : List ℕ). a ++ more ++ b) (take-append-seam text rest)
-    (drop-append-add text rest (length more)
-    ∙ drop-drop (length more) (length text) line
-    ∙ ap (λ (k : ℕ). drop k line) (sym (length-append text more)))
+    ap₂ (λ (k : ℕ) (l : List ℕ). put k more l) (sym (zero-add (length text))) (sym (put-written text line))
+    ∙ put-more 0 text more line zero-le
+    ∙ put-written (text ++ more) line
 
 -- a text, and then a byte at its end
 pub written-byte : (text line : List ℕ) (b : ℕ) → length text < length line
     → set (written text line) (length text) b ≡ written (text ++ b ∷ []) line
-unfolding written
 written-byte text line b h =
-    let rest : List ℕ = drop (suc (length text)) line in
-    let one : suc (length text) ≡ length (text ++ b ∷ []) = simp length-append (omega arith) in
-    ap (λ (l : List ℕ). set (text ++ l) (length text) b) (drop-cons line (length text) 0 h)
-    ∙ set-append-seam text (getD line (length text) 0) rest b
-    ∙ sym (append-snoc text b rest)
-    ∙ ap (λ (k : ℕ). text ++ b ∷ [] ++ drop k line) one
+    put-one (length text) b (written text line) (omega (arith, written-length text line (omega arith)))
+    ∙ written-more text (b ∷ []) line
 
--- a line of `stop` has 7 bytes
-pub stop-length : (c : Cause) → length (stopLine c) ≡ 7
+-- a line of `stop` has room for any number in its 16 bytes
+pub stop-length : (c : Cause) → length (stopLine c) ≤ stopRoom
 unfolding stopLine
-stop-length c = refl
+stop-length c = simp length-append (omega (arith, decimal-length (numberOf c)))
 
 -- a line fits in 18 bytes and two for each byte of the message
 pub line-fits : (about : ℕ) (r : Reply) (message : List ℕ) → length (lineOf about r message) ≤ 18 + 2 * length message

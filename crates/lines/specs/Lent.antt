@@ -25,10 +25,14 @@ lineOn about reply message line =
       | false ↦ record { line = written (lineOf about reply message) line; len = length (lineOf about reply message) }
     ]
 
--- the line of a refusal, over the start of a lent line; without room for its 7 bytes nothing changes
+-- what the line of a refusal may take: `stop `, ten digits, and the line's end
+abbrev pub stopRoom : ℕ
+stopRoom = 16
+
+-- the line of a refusal, over the start of a lent line; without room for any number's nothing changes
 unfoldable pub stopOn : Cause → List ℕ → Line
 stopOn c line =
-    elim (ltb (length line) 7) [
+    elim (ltb (length line) stopRoom) [
       | true ↦ record { line = line; len = 0 }
       | false ↦ record { line = written (stopLine c) line; len = length (stopLine c) }
     ]

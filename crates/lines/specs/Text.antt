@@ -1,35 +1,12 @@
 -- Document 01, "Playing a recording": the lines, as bytes.
-use mathlib.Core.Bool.{true, false, cond}
 use mathlib.Core.List.{List, [], _∷_, _++_}
-use Prim.Native.Nat.{ℕ, zero, suc, _+_, _/_, _%_}
-use lib.Dec.{ltb}
+use Prim.Native.Nat.{ℕ}
 use lib.ListN.{length, drop}
 use Rattle.protocol.specs.declared.Cause.{Cause}
 use Rattle.protocol.specs.declared.Reply.{Reply}
 use Rattle.protocol.specs.declared.Reply.the-variants.{Refused, NoneYet, Whole, Lost, Clash}
 use Rattle.protocol.specs.Causes.{numberOf}
-
--- a digit below 16, in lower case
-abbrev pub glyph : ℕ → ℕ
-glyph d = cond (ltb d 10) (48 + d) (87 + d)
-
--- the decimal digits of a number that has at most one more than these
-unfoldable pub decimalUpTo : ℕ → ℕ → List ℕ
-decimalUpTo zero n = glyph (n % 10) ∷ []
-decimalUpTo (suc more) n =
-    elim (ltb n 10) [
-      | true ↦ glyph n ∷ []
-      | false ↦ decimalUpTo more (n / 10) ++ (glyph (n % 10) ∷ [])
-    ]
-
--- a slot's number in decimal: 32 bits have at most ten digits
-unfoldable pub decimal : ℕ → List ℕ
-decimal n = decimalUpTo 9 n
-
--- bytes in lower-case hex
-abbrev pub hex : List ℕ → List ℕ
-hex [] = []
-hex (b ∷ bs) = glyph (b / 16) ∷ glyph (b % 16) ∷ hex bs
+use Rattle.numbers.specs.Digits.{decimal, hex}
 
 -- ` whole `, ` lost` and ` clash` with the line's end, and `stop `
 abbrev pub wholeWord : List ℕ
@@ -46,7 +23,7 @@ stopWord = 115 ∷ 116 ∷ 111 ∷ 112 ∷ 32 ∷ []
 
 -- a line of `stop`, a space and the number
 unfoldable pub stopLine : Cause → List ℕ
-stopLine c = stopWord ++ glyph (numberOf c) ∷ 10 ∷ []
+stopLine c = stopWord ++ decimal (numberOf c) ++ 10 ∷ []
 
 -- what a report prints of the message that it tells of: its number, a space, and the reply; after `whole` the message; `none yet` prints no line
 unfoldable pub lineOf : ℕ → Reply → List ℕ → List ℕ

@@ -34,11 +34,11 @@ pub fn write_line(about: u32, reply: Reply, message: &[u8], line: &mut [u8]) -> 
     put_line(about, reply, message, line)
 }
 
-// The line of a refusal, and how long it is: 0 where the lent line has no room for it.
+// The line of a refusal, and how long it is: 0 where the lent line has no room for any number's.
 pub fn write_stop(c: Cause, line: &mut [u8]) -> usize
     ensures { λ r. ⌜ record { line = now (line .exit); len = r } ≡ stopOn c (now (line .entry)) ⌝ }
 {
-    if line.len() < 7 {
+    if line.len() < 16 {
         return 0;
     }
     put_stop(c, line)

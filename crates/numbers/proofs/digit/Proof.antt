@@ -2,8 +2,8 @@
 use borrow.Author.Needs.{needs}
 use borrow.Author.Tests.{lt-ltb, le-ltb}
 use native.Mathlib.Omega.{arith}
-use Rattle.lines.proofs.text.digit.Statement.{statement}
-use Rattle.lines.proofs.text.digit.Tie as tie
+use Rattle.numbers.proofs.digit.Statement.{statement}
+use Rattle.numbers.proofs.digit.Tie as tie
 
 returns : tie.Need-returns
 returns c = rw (lt-ltb (c .before .args .d) 10 (omega arith))

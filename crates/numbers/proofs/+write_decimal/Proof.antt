@@ -8,14 +8,14 @@ use borrow.Fn.PlainCycle.{Measures, is, falls, and}
 use native.Mathlib.Omega.{arith}
 use denote.Ref.{now}
 use lib.ListN.{length, length-set}
-use Rattle.lines.proofs.Decimals.{one-digit, decimal-length}
-use Rattle.lines.proofs.WrittenLines.{first-written, tenth-length, tenth-written, last-written}
-use Rattle.lines.proofs.text.write_decimal.Reads as write-decimal
-use Rattle.lines.proofs.text.write_decimal.Kinds as write-decimal-kinds
-use Rattle.lines.proofs.text.+write_decimal.Lts-write_decimal as write-decimal-lts
-use Rattle.lines.proofs.text.digit.Reads as digit-reads
-use Rattle.lines.proofs.text.+write_decimal.{statement}
-use Rattle.lines.proofs.text.+write_decimal.Tie.{close}
+use Rattle.numbers.proofs.Decimals.{one-digit, decimal-length}
+use Rattle.numbers.proofs.DecimalsPut.{first-put, tenth-length, tenth-put, last-put}
+use Rattle.numbers.proofs.write_decimal.Reads as write-decimal
+use Rattle.numbers.proofs.write_decimal.Kinds as write-decimal-kinds
+use Rattle.numbers.proofs.+write_decimal.Lts-write_decimal as write-decimal-lts
+use Rattle.numbers.proofs.digit.Reads as digit-reads
+use Rattle.numbers.proofs.+write_decimal.{statement}
+use Rattle.numbers.proofs.+write_decimal.Tie.{close}
 
 abbrev μ-write-decimal : Measures 1 write-decimal-kinds.ps ℕ
 μ-write-decimal κs a = a .0
@@ -38,13 +38,14 @@ pub +write-decimal-spec : {M : Type 1} → statement M
     (λ c. omega arith)
     (λ c κs. omega arith)
     (λ c. let a = c .before .before .before .args in omega (arith, ap length (one-digit (a .n) (omega arith))))
+    (λ c. let a = c .before .before .before .args in omega (arith, ap length (one-digit (a .n) (omega arith))))
     (λ c. search needs)
     (λ c.
     let start = c .before .before .before in
-    first-written (start .args .n) (c .digit .result) (now (start .args .line)) (omega arith) (c .digit .ensures) (start .pre .1))
+    first-put (start .args .n) (now (start .args .line)) (start .args .start) (start .pre .1) (c .digit .result) (omega arith) (c .digit .ensures))
     (λ c κs.
     let start = c .before .before .before in
-    (omega arith, omega (arith, tenth-length (start .args .n) (now (start .args .line)) (omega arith) (omega arith) (start .pre .1))))
+    (omega arith, omega (arith, tenth-length (start .args .n) (now (start .args .line)) (start .args .start) (start .pre .1) (omega arith) (omega arith))))
     (λ c. omega arith)
     (λ c κs. omega arith)
     (λ c.
@@ -54,8 +55,8 @@ pub +write-decimal-spec : {M : Type 1} → statement M
     let line : List ℕ = now (start .args .line) in
     omega (
       arith,
-      tenth-length n line (omega arith) (omega arith) (start .pre .1),
-      tenth-written n line (omega arith) (omega arith) (start .pre .1) (tenth .last .1 .0) (tenth .ensures .1),
+      tenth-length n line (start .args .start) (start .pre .1) (omega arith) (omega arith),
+      tenth-put n line (start .args .start) (start .pre .1) (omega arith) (omega arith) (tenth .last .1 .0) (tenth .ensures .1),
     ))
     (λ c.
     let a = c .before .before .before .before .before .before .before .args in
@@ -66,9 +67,9 @@ pub +write-decimal-spec : {M : Type 1} → statement M
     let n : ℕ = start .args .n in
     let line : List ℕ = now (start .args .line) in
     length-set (tenth .last .1 .0) (tenth .result) (c .digit2 .result)
-    ∙ tenth-written n line (omega arith) (omega arith) (start .pre .1) (tenth .last .1 .0) (tenth .ensures .1))
+    ∙ tenth-put n line (start .args .start) (start .pre .1) (omega arith) (omega arith) (tenth .last .1 .0) (tenth .ensures .1))
     (λ c.
     let start = c .before .before .before .before .before .before .before in
     let tenth = c .before .before .before .write-decimal in
-    last-written (start .args .n) (now (start .args .line)) (omega arith) (omega arith) (start .pre .1)
+    last-put (start .args .n) (now (start .args .line)) (start .args .start) (start .pre .1) (omega arith) (omega arith)
     (tenth .result) (c .digit2 .result) (tenth .last .1 .0) (tenth .ensures .0) (tenth .ensures .1) (c .digit2 .ensures))

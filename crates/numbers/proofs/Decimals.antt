@@ -8,7 +8,7 @@ use native.Mathlib.Omega.{arith}
 use borrow.Author.Tests.{lt-ltb, le-ltb, ltb-true, ltb-false}
 use lib.Dec.{ltb}
 use lib.ListN.{length, length-append}
-use Rattle.lines.specs.Text.{glyph, decimalUpTo, decimal}
+use Rattle.numbers.specs.Digits.{glyph, decimalUpTo, decimal}
 
 -- the digits of a number, by whether it is below 10, where there is room for a second digit
 abbrev digits : ℕ → ℕ → Bool → List ℕ

@@ -6,7 +6,7 @@ use native.Mathlib.Nat.{not-suc-le-zero, le-of-suc-le-suc}
 use native.Mathlib.Omega.{arith}
 use lib.ListN.{length, getD, set}
 use lib.Seq.{paste, paste-suc}
-use Rattle.lines.specs.Text.{glyph, hex}
+use Rattle.numbers.specs.Digits.{glyph, hex}
 
 -- two digits a byte
 pub hex-length : (bytes : List ℕ) → length (hex bytes) ≡ 2 * length bytes

@@ -6,10 +6,10 @@ use Prim.Native.Nat.{ℕ, _+_, _-_, _*_, _≤_, zero-le}
 use denote.Ref.{now}
 use lib.ListN.{length, set, take, drop, length-set}
 use lib.Seq.{paste, paste-zero, take-length}
-use Rattle.lines.specs.Text.{hex}
-use Rattle.lines.proofs.HexDigits.{hex-length, byte-pasted}
-use Rattle.lines.proofs.text.write_hex.Statement.{statement}
-use Rattle.lines.proofs.text.write_hex.Tie as tie
+use Rattle.numbers.specs.Digits.{hex, put}
+use Rattle.numbers.proofs.HexDigits.{hex-length, byte-pasted}
+use Rattle.numbers.proofs.write_hex.Statement.{statement}
+use Rattle.numbers.proofs.write_hex.Tie as tie
 
 abbrev Inv-loop : tie.InvT-loop
 Inv-loop bytes line₀ start i₀ line i =
@@ -31,14 +31,17 @@ loop-again c =
     )
 
 returns : tie.Need-returns Inv-loop μ-loop
+unfolding put
 returns c =
     let at = c .before .loop in
     let a = c .before .before .before .before .args in
     let text : List ℕ = hex (now (a .bytes)) in
     let size : length text ≡ 2 * length (now (a .bytes)) = hex-length (now (a .bytes)) in
-    let all : 2 * at .i ≡ length text = omega arith in
-    at .inv .2 ∙ ap (λ (k : ℕ). paste (now (a .line)) (a .start) text k) all
-    ∙ ap (λ (l : List ℕ). take (a .start) (now (a .line)) ++ l ++ drop (a .start + length text) (now (a .line))) (take-length text)
+    let all : 2 * at .i ≡ length text = omega arith in (
+      omega arith,
+      at .inv .2 ∙ ap (λ (k : ℕ). paste (now (a .line)) (a .start) text k) all
+          ∙ ap (λ (l : List ℕ). take (a .start) (now (a .line)) ++ l ++ drop (a .start + length text) (now (a .line))) (take-length text),
+    )
 
 pub write-hex-spec : {M : Type 1} → statement M
 write-hex-spec =
@@ -59,5 +62,7 @@ write-hex-spec =
     (λ c. omega arith)
     (λ c. omega arith)
     loop-again
+    (λ c. omega arith)
+    (λ c. omega arith)
     (λ c. c .before .loop .inv .1)
     returns)

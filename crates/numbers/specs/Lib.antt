@@ -1,0 +1,2 @@
+-- Numbers and bytes in digits.
+pub mod Digits
