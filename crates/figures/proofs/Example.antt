@@ -30,7 +30,8 @@ use Rattle.protocol.proofs.QuickVerdict.{quickSymbol, verdictBy, bufferBy, quic
 use Rattle.protocol.proofs.QuickVerdict.{small, smallFrames, quick-report}
 use Rattle.numbers.specs.Digits.{decimal, decimalUpTo}
 use Rattle.lines.specs.Text.{stopLine, lineOf}
-use Rattle.stops.specs.Stops.{settingsIn, recordingCause, slotIn, frameStop}
+use Rattle.frames.specs.Fields.{settingsAt, slotAt, settingsIn, slotIn}
+use Rattle.stops.specs.Stops.{recordingCause, frameStop}
 use Rattle.steps.specs.Steps.{refuses}
 use Rattle.player.specs.Transcript.{Rest, andThen, skipped, played, pieces, playedFrom, transcript}
 
@@ -128,7 +129,7 @@ quickTranscript =
 
 -- it is what the definition prints
 quickly-printed : transcript example ≡ quickTranscript
-unfolding transcript playedFrom quickTranscript Alike recordingCause settingsIn pieces example smallAll small
+unfolding transcript playedFrom quickTranscript Alike recordingCause settingsAt pieces example smallAll small
     accepted all delayOf nOf kOf messageLen bodyLen frameLen rowLen rowCount receiverLen openReceiverOf openCause receivedZeros joined
 quickly-printed =
     let s : Settings = settingsIn example in
@@ -137,7 +138,7 @@ quickly-printed =
 
 -- computed, as document 01 prints it
 computed : quickTranscript ≡ exampleLines
-unfolding quickTranscript exampleLines quickPlayed quickSkipped andThen pieces settingsIn slotIn frameStop example
+unfolding quickTranscript exampleLines quickPlayed quickSkipped andThen pieces settingsAt slotAt frameStop example
     lineOf decimal decimalUpTo stopLine
     table _⊠_ _⊞_ narrow timesBits timesZ narrowQuotient narrowReciprocal narrowReciprocals
     _⊕_ _⊗_ high low byte eight alpha reciprocal first quotient widen sum every any

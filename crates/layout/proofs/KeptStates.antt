@@ -18,8 +18,9 @@ use Rattle.protocol.specs.Frame.{five, slotBytes}
 use Rattle.protocol.specs.declared.Answer.the-variants as answer
 use Rattle.protocol.specs.Causes.{agree}
 use Rattle.protocol.proofs.CauseTables.{none-holds, passes}
+use Rattle.frames.specs.Fields.{settingsAt, slotAt}
 use Rattle.layout.specs.State.{senderEnd, receiverEnd, markOf, stateBytes, senderBytes, receiverBytes, stateLen}
-use Rattle.layout.specs.State.{settingsAt, slotAt, senderIn, receiverIn, stateTable, stateCause}
+use Rattle.layout.specs.State.{senderIn, receiverIn, stateTable, stateCause}
 use Rattle.layout.proofs.StateBytes.{length-state}
 
 -- ---- reading back what was written

@@ -1,9 +1,9 @@
 -- The state that the static library's callers keep between calls, as 13 bytes.
 use mathlib.Core.Bool.{Bool, cond, not}
 use mathlib.Core.List.{List, [], _∷_, _++_}
-use Prim.Native.Nat.{ℕ, _+_, _*_}
+use Prim.Native.Nat.{ℕ}
 use lib.Dec.{eqb}
-use lib.ListN.{getD, length}
+use lib.ListN.{length}
 use Rattle.code.specs.declared.settings.Settings.{Settings}
 use Rattle.protocol.specs.declared.Sender.{Sender}
 use Rattle.protocol.specs.declared.Receiver.{Receiver}
@@ -12,6 +12,7 @@ use Rattle.protocol.specs.States.{senderAt, receiverAt}
 use Rattle.protocol.specs.Frame.{five, slotBytes}
 use Rattle.protocol.specs.declared.Answer.{Answer}
 use Rattle.protocol.specs.Causes.{Row, row, firstOf, agree}
+use Rattle.frames.specs.Fields.{settingsAt, slotAt}
 
 -- ---- what is written
 
@@ -47,21 +48,6 @@ abbrev pub saved : Bool → ℕ → Settings → ℕ → List ℕ → List ℕ
 saved taken end s due state = cond taken (stateBytes end s due) state
 
 -- ---- what is read
-
--- W, T, B, N and L, from the place `start`
-unfoldable pub settingsAt : ℕ → List ℕ → Settings
-settingsAt start bytes = record {
-  window = getD bytes start 0;
-  delay = getD bytes (start + 1) 0;
-  burst = getD bytes (start + 2) 0;
-  scattered = getD bytes (start + 3) 0;
-  lanes = getD bytes (start + 4) 0;
-}
-
--- a slot in 32 bits, high byte first, from the place `start`
-unfoldable pub slotAt : ℕ → List ℕ → ℕ
-slotAt start bytes =
-    ((getD bytes start 0 * 256 + getD bytes (start + 1) 0) * 256 + getD bytes (start + 2) 0) * 256 + getD bytes (start + 3) 0
 
 -- the sender that a state keeps
 unfoldable pub senderIn : List ℕ → Sender

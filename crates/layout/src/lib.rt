@@ -10,5 +10,4 @@ pub use state::SENDER_END;
 pub use state::STATE_LEN;
 pub use state::receiver_in;
 pub use state::sender_in;
-pub use state::settings_at;
 pub use state::state_cause;

@@ -1,16 +1,18 @@
 // The state that a caller keeps between calls: read, refused, and written.
 use code::Settings;
+use frames::settings_at;
+use frames::slot_at;
 use protocol::Answer;
 use protocol::Cause;
 use protocol::Receiver;
 use protocol::Sender;
 use protocol::write_at;
 ghost use mathlib.Core.Path.{_≡_};
-ghost use Prim.Native.Nat.{_+_, _*_, _≤_};
+ghost use Prim.Native.Nat.{_≤_};
 ghost use lib.ListN.{length};
 ghost use Rattle.protocol.specs.Causes.{agree};
 ghost use Rattle.layout.specs.State.{markOf, stateBytes, stateLen, saved};
-ghost use Rattle.layout.specs.State.{settingsAt, slotAt, senderIn, receiverIn, stateCause};
+ghost use Rattle.layout.specs.State.{senderIn, receiverIn, stateCause};
 
 // The length of a state.
 pub const STATE_LEN: usize = 13;
@@ -20,40 +22,6 @@ pub const SENDER_END: u8 = 0x53;
 
 // And `R` for a receiver.
 pub const RECEIVER_END: u8 = 0x52;
-
-// W, T, B, N and L, from the place `start`.
-pub fn settings_at(bytes: &[u8], start: usize) -> Settings
-    requires { ⌜ start + 5 ≤ length (now bytes) ⌝ }
-    ensures { λ r. ⌜ r ≡ settingsAt start (now (bytes .entry)) ⌝ }
-{
-    Settings {
-        window: bytes[start],
-        delay: bytes[start + 1],
-        burst: bytes[start + 2],
-        scattered: bytes[start + 3],
-        lanes: bytes[start + 4],
-    }
-}
-
-// Four bytes as one number, the first the highest.
-fn high_first(a: u8, b: u8, c: u8, d: u8) -> u32
-    ensures { λ r. ⌜ r ≡ ((a * 256 + b) * 256 + c) * 256 + d ⌝ }
-{
-    ((a as u32 * 256 + b as u32) * 256 + c as u32) * 256 + d as u32
-}
-
-// A slot in 32 bits, high byte first, from the place `start`.
-fn slot_at(bytes: &[u8], start: usize) -> u32
-    requires { ⌜ start + 4 ≤ length (now bytes) ⌝ }
-    ensures { λ r. ⌜ r ≡ slotAt start (now (bytes .entry)) ⌝ }
-{
-    high_first(
-        bytes[start],
-        bytes[start + 1],
-        bytes[start + 2],
-        bytes[start + 3],
-    )
-}
 
 // The sender that a state keeps.
 pub fn sender_in(state: &[u8]) -> Sender

@@ -13,7 +13,8 @@ use Rattle.protocol.specs.declared.Answer.the-variants as answer
 use Rattle.lines.specs.Text.{written}
 use Rattle.lines.specs.Lent.{longest}
 use Rattle.stops.specs.declared.Start.the-variants.{Play}
-use Rattle.stops.specs.Stops.{settingsIn, recordingCause, startOf}
+use Rattle.frames.specs.Fields.{settingsIn}
+use Rattle.stops.specs.Stops.{recordingCause, startOf}
 use Rattle.stops.proofs.StartLaws.{passed}
 use Rattle.steps.specs.declared.Player.{Player}
 use Rattle.steps.specs.Steps.{beginOf, Act}

@@ -10,7 +10,6 @@ use lib.ListN.{length, take, drop, replicate, length-replicate}
 use lib.Seq.{drop-drop}
 use Rattle.code.specs.declared.settings.Settings.{Settings}
 use Rattle.code.specs.Settings.{accepted}
-use Rattle.protocol.specs.declared.Receiver.{Receiver}
 use Rattle.protocol.specs.declared.Answer.the-variants as answer
 use Rattle.protocol.specs.Lengths.{messageLen, frameLen, rowCount, receiverLen}
 use Rattle.protocol.specs.States.{receiverAt}
@@ -18,7 +17,8 @@ use Rattle.protocol.specs.Rows.{joined}
 use Rattle.protocol.specs.declared.Answer.{Answer}
 use Rattle.protocol.specs.Calls.{OpenedReceiver, openReceiverOf, receivedZeros, Reported, lossOf, heardOf}
 use Rattle.protocol.proofs.CauseTables.{open-clear}
-use Rattle.stops.specs.Stops.{slotIn, frameStop}
+use Rattle.frames.specs.Fields.{slotIn}
+use Rattle.stops.specs.Stops.{frameStop}
 use Rattle.stops.proofs.StopLaws.{passing-stop, passing-onward}
 use Rattle.steps.specs.declared.Player.{Player}
 use Rattle.steps.specs.Steps.{refuses, beginOf, Act, endAct, stopAct, reportAct, actOf}

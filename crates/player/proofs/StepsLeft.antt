@@ -9,7 +9,8 @@ use Rattle.protocol.specs.declared.Cause.{Cause}
 use Rattle.protocol.specs.Lengths.{frameLen}
 use Rattle.protocol.specs.declared.Answer.the-variants as answer
 use Rattle.protocol.specs.Calls.{Reported, lossOf, heardOf}
-use Rattle.stops.specs.Stops.{slotIn, frameStop}
+use Rattle.frames.specs.Fields.{slotIn}
+use Rattle.stops.specs.Stops.{frameStop}
 use Rattle.stops.proofs.StopLaws.{stop-passing}
 use Rattle.steps.specs.declared.Player.{Player}
 use Rattle.steps.specs.Steps.{Act, endAct, stopAct, reportAct, actOf}

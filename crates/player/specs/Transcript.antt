@@ -10,7 +10,8 @@ use Rattle.protocol.specs.Lengths.{messageLen, frameLen, receiverLen}
 use Rattle.protocol.specs.declared.Answer.the-variants as answer
 use Rattle.protocol.specs.Calls.{OpenedReceiver, openReceiverOf, Reported, messageDue, lossOf, heardOf}
 use Rattle.lines.specs.Text.{stopLine, lineOf}
-use Rattle.stops.specs.Stops.{settingsIn, recordingCause, slotIn, frameStop}
+use Rattle.frames.specs.Fields.{settingsIn, slotIn}
+use Rattle.stops.specs.Stops.{recordingCause, frameStop}
 use Rattle.steps.specs.Steps.{refuses}
 
 -- ---- the frames

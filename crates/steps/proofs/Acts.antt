@@ -21,7 +21,8 @@ use Rattle.protocol.proofs.ReportSteps.{loss-moves, loss-stays, heard-moves, he
 use Rattle.recording.specs.declared.Found.the-variants.{Part}
 use Rattle.recording.specs.Found.{foundAt}
 use Rattle.recording.proofs.FoundLaws.{end-stands, frame-stands, Standing, standing}
-use Rattle.stops.specs.Stops.{slotIn, frameStop}
+use Rattle.frames.specs.Fields.{slotIn}
+use Rattle.stops.specs.Stops.{frameStop}
 use Rattle.steps.specs.declared.Player.{Player}
 use Rattle.steps.specs.Steps.{refuses, Act, endAct, stopAct, reportAct, frameAct, actOf}
 

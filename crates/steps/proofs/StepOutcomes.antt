@@ -17,7 +17,8 @@ use Rattle.terminal.specs.Given.{reportIn}
 use Rattle.recording.specs.declared.Found.the-variants.{Frame, Part, End}
 use Rattle.recording.specs.Found.{foundAt}
 use Rattle.lines.specs.Text.{stopLine, lineOf, written}
-use Rattle.stops.specs.Stops.{slotIn, frameStop}
+use Rattle.frames.specs.Fields.{slotIn}
+use Rattle.stops.specs.Stops.{frameStop}
 use Rattle.steps.specs.declared.Player.{Player}
 use Rattle.steps.specs.Steps.{refuses, Act, endAct, stopAct, reportAct, frameAct, actOf}
 use Rattle.steps.specs.Outcomes.{printedOn}

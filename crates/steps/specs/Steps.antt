@@ -16,7 +16,8 @@ use Rattle.protocol.specs.Calls.{openReceiverOf, Reported, messageDue, lossOf, 
 use Rattle.recording.specs.declared.Found.the-variants.{Frame, Part, End}
 use Rattle.recording.specs.Found.{foundAt}
 use Rattle.lines.specs.Text.{stopLine, lineOf}
-use Rattle.stops.specs.Stops.{slotIn, frameStop}
+use Rattle.frames.specs.Fields.{slotIn}
+use Rattle.stops.specs.Stops.{frameStop}
 use Rattle.steps.specs.declared.Player.{Player}
 
 -- ---- the start

@@ -3,6 +3,7 @@
 mod telling;
 
 use code::Settings;
+use frames::slot_of;
 use protocol::Answer;
 use protocol::Cause;
 use protocol::Receiver;
@@ -10,7 +11,6 @@ use protocol::clear;
 use protocol::frame_len;
 use recording::Found;
 use recording::next_frame;
-use stops::slot_of;
 use stops::stop_of;
 use telling::stopped;
 use telling::told;

@@ -1,11 +1,11 @@
 -- How a recording starts, by the tests before any line.
 use mathlib.Core.Path.{_≡_, refl, ap, subst}
-use mathlib.Core.Bool.{Bool, true, false, not, _||_}
+use mathlib.Core.Bool.{Bool, true, false}
 use mathlib.Core.Logic.{_≢_}
-use mathlib.Core.List.{List}
+use mathlib.Core.List.{List, [], _∷_}
 use Prim.Native.Nat.{ℕ, _%_, _≤_, _<_}
 use native.Mathlib.Omega.{arith}
-use lib.Dec.{T, eqb, ltb}
+use lib.Dec.{T, eqb}
 use lib.ListN.{length}
 use borrow.Author.Tests.{eq-eqb, ne-eqb, eqb-true, lt-ltb, le-ltb, not-false}
 use Rattle.code.specs.declared.settings.Settings.{Settings}
@@ -15,11 +15,12 @@ use Rattle.protocol.specs.declared.Cause.the-variants.{BadSettings, BadLength}
 use Rattle.protocol.specs.Lengths.{frameLen}
 use Rattle.protocol.specs.declared.Answer.{Answer}
 use Rattle.protocol.specs.declared.Answer.the-variants as answer
-use Rattle.protocol.specs.Causes.{check}
+use Rattle.protocol.specs.Causes.{Row, firstOf}
 use Rattle.protocol.proofs.CauseTables.{check-clear, passes, fails}
+use Rattle.frames.specs.Fields.{settingsIn}
 use Rattle.stops.specs.declared.Start.{Start}
 use Rattle.stops.specs.declared.Start.the-variants.{Empty, Stop, Play}
-use Rattle.stops.specs.Stops.{settingsIn, recordingCause, startOf}
+use Rattle.stops.specs.Stops.{recordingTable, recordingCause, startOf}
 
 module _ (recording : List ℕ) where
   pub starts-empty : length recording ≡ 0 → Empty ≡ startOf recording
@@ -75,19 +76,24 @@ module _ (recording : List ℕ) where
 
 -- ---- a recording that passes
 
--- a recording that passes has accepted settings, and is whole frames
+-- no condition of a table holds
+abbrev AllClear : List Row → Type 0
+AllClear [] = Unit {0}
+AllClear (r ∷ rs) = (r .holds ≡ false) × AllClear rs
+
+-- where it finds no cause
+all-clear : (rs : List Row) → firstOf rs ≡ answer.Accepted → AllClear rs
+all-clear [] e = tt
+all-clear (r ∷ rs) e = let x = check-clear (r .holds) (r .why) (firstOf rs) e in (x .0, all-clear rs (x .1))
+
+-- it has accepted settings, and is whole frames
 pub passed : (recording : List ℕ) → recordingCause recording ≡ answer.Accepted
     → T (accepted (settingsIn recording)) × (length recording % frameLen (settingsIn recording) ≡ 0)
 unfolding recordingCause
 passed recording e =
-    let s : Settings = settingsIn recording in
-    let whole : Answer = check (not (eqb (length recording % frameLen s) 0)) BadLength answer.Accepted in
-    let a =
-    check-clear (ltb (length recording) 14 || ltb 65536 (length recording)) BadLength
-    (check (not (accepted s)) BadSettings whole) e in
-    let b = check-clear (not (accepted s)) BadSettings whole (a .1) in
-    let c = check-clear (not (eqb (length recording % frameLen s) 0)) BadLength answer.Accepted (b .1) in
-    (passes (accepted s) (b .0), eqb-true (length recording % frameLen s) 0 (not-false (eqb (length recording % frameLen s) 0) (c .0)))
+    let whole : Bool = eqb (length recording % frameLen (settingsIn recording)) 0 in
+    let free = all-clear (recordingTable recording) e in
+    (passes (accepted (settingsIn recording)) (free .1 .0), eqb-true (length recording % frameLen (settingsIn recording)) 0 (not-false whole (free .1 .1 .0)))
 
 -- the settings of a start that has them
 settingsOf : Settings → Start → Settings

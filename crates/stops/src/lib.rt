@@ -3,7 +3,6 @@ mod frame;
 mod opening;
 
 use code::Settings;
-pub use frame::slot_of;
 pub use frame::stop_of;
 pub use opening::examine;
 use protocol::Cause;

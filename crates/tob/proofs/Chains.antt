@@ -26,7 +26,8 @@ use Rattle.protocol.proofs.ReportCauses.{loss-open, frame-open}
 use Rattle.protocol.proofs.ReportRows.{moved-accepts}
 use Rattle.protocol.proofs.ReportSteps as steps
 use Rattle.protocol.proofs.ReportChain as reporting
-use Rattle.layout.specs.State.{senderEnd, receiverEnd, senderBytes, receiverBytes, saved, stateLen, settingsAt, senderIn, receiverIn, stateCause}
+use Rattle.frames.specs.Fields.{settingsAt}
+use Rattle.layout.specs.State.{senderEnd, receiverEnd, senderBytes, receiverBytes, saved, stateLen, senderIn, receiverIn, stateCause}
 use Rattle.protocol.specs.Numbers.{answerNumber, replyNumber}
 use Rattle.layout.proofs.KeptStates.{state-uncaused, sender-in-state, receiver-in-state}
 use Rattle.layout.proofs.Refusals.{cause-refused, reply-accepted}

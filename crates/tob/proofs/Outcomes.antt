@@ -18,7 +18,8 @@ use Rattle.protocol.specs.Calls.{OpenedSender, OpenedReceiver, Sent, Reported, 
 use Rattle.protocol.specs.Histories.{accepts}
 use Rattle.protocol.proofs.CauseTables.{none-holds, followedBy, one-below, passes}
 use Rattle.protocol.proofs.ReportRows.{moved-accepts}
-use Rattle.layout.specs.State.{senderEnd, receiverEnd, saved, stateLen, settingsAt, senderIn, receiverIn, stateTable, stateCause}
+use Rattle.frames.specs.Fields.{settingsAt}
+use Rattle.layout.specs.State.{senderEnd, receiverEnd, saved, stateLen, senderIn, receiverIn, stateTable, stateCause}
 use Rattle.protocol.specs.Numbers.{answerNumber, replyNumber}
 use Rattle.layout.specs.Numbers.{taken}
 use Rattle.tob.specs.Causes.{openBytesCause, sendBytesCause, heardBytesCause, lostBytesCause}

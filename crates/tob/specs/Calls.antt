@@ -9,7 +9,8 @@ use Rattle.protocol.specs.Lengths.{senderLen, receiverLen}
 use Rattle.protocol.specs.declared.Answer.the-variants as answer
 use Rattle.protocol.specs.Causes.{numberOf}
 use Rattle.protocol.specs.Calls.{OpenedSender, OpenedReceiver, Sent, Reported, openSenderOf, sendOf, openReceiverOf, heardOf, lossOf}
-use Rattle.layout.specs.State.{senderBytes, receiverBytes, settingsAt, senderIn, receiverIn}
+use Rattle.frames.specs.Fields.{settingsAt}
+use Rattle.layout.specs.State.{senderBytes, receiverBytes, senderIn, receiverIn}
 use Rattle.protocol.specs.Numbers.{answerNumber, replyNumber}
 use Rattle.tob.specs.Causes.{openBytesCause, sendBytesCause, heardBytesCause, lostBytesCause}
 

@@ -1,7 +1,7 @@
 // How long each lent buffer is, for settings of five bytes: W, T, B, N and L. 0 where they are not accepted.
 use code::Settings;
+use frames::settings_at;
 use layout::STATE_LEN;
-use layout::settings_at;
 use protocol::frame_len;
 use protocol::message_len;
 use protocol::receiver_len;

@@ -1,10 +1,10 @@
 // The openings of both ends.
 use code::Settings;
+use frames::settings_at;
 use layout::RECEIVER_END;
 use layout::SENDER_END;
 use layout::STATE_LEN;
 use layout::save_answer;
-use layout::settings_at;
 use protocol::Answer;
 use protocol::Cause;
 use protocol::number_of;

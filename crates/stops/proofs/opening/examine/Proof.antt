@@ -10,8 +10,8 @@ use lib.Dec.{T}
 use lib.ListN.{length}
 use Rattle.code.specs.Settings.{accepted}
 use Rattle.protocol.specs.Lengths.{frameLen}
+use Rattle.frames.specs.Fields.{settingsIn}
 use Rattle.stops.specs.declared.Start.the-variants.{Play}
-use Rattle.stops.specs.Stops.{settingsIn}
 use Rattle.stops.proofs.StartLaws.{starts-empty, starts-short, starts-long, starts-refused, starts-part, starts-whole}
 use Rattle.stops.proofs.opening.examine.Statement.{statement}
 use Rattle.stops.proofs.opening.examine.Tie as tie
@@ -36,13 +36,13 @@ third c = c .before .before .before
 passed : (c : tie.Else4) → T (accepted (settingsIn (now (start (third c) .args .recording))))
 passed c =
     subst⁻¹ T
-    (ap accepted (sym (c .before .before .settings-in .ensures)) ∙ sym (c .before .accepted .ensures)
+    (ap accepted (sym (c .before .before .settings-at .ensures)) ∙ sym (c .before .accepted .ensures)
     ∙ not-false (c .before .accepted .result) (c .if4 .left)) tt
 
 -- and so is the length of a frame
 frame : (c : tie.After-frame-len)
     → c .frame-len .result ≡ frameLen (settingsIn (now (start (third (c .before)) .args .recording)))
-frame c = c .frame-len .ensures ∙ ap frameLen (c .before .before .before .settings-in .ensures)
+frame c = c .frame-len .ensures ∙ ap frameLen (c .before .before .before .settings-at .ensures)
 
 returns : tie.Need-returns
 returns c = starts-empty (now (c .before .before .args .recording)) (omega arith)
@@ -61,7 +61,7 @@ returns-4 c =
     let at = c .before in
     let three = at .before .before in
     starts-refused (now (start three .args .recording)) (some three) (headed three) (short three)
-    (ap accepted (sym (at .before .settings-in .ensures)) ∙ sym (at .accepted .ensures) ∙ not-true (at .accepted .result) (c .if4 .taken))
+    (ap accepted (sym (at .before .settings-at .ensures)) ∙ sym (at .accepted .ensures) ∙ not-true (at .accepted .result) (c .if4 .taken))
 
 rem-if5 : tie.Need-rem-if5
 unfolding frameLen
@@ -80,7 +80,7 @@ returns-6 c =
     let at = c .before in
     let four = at .before in
     let three = third four in
-    ap Play (four .before .before .settings-in .ensures)
+    ap Play (four .before .before .settings-at .ensures)
     ∙ starts-whole (now (start three .args .recording)) (some three) (headed three) (short three) (passed four)
     (ap (λ (m : ℕ). length (now (start three .args .recording)) % m) (sym (frame at)) ∙ c .if5 .left)
 

@@ -8,7 +8,8 @@ use Rattle.code.specs.declared.settings.Settings.{Settings}
 use Rattle.protocol.specs.declared.Answer.the-variants as answer
 use Rattle.protocol.specs.Causes.{openCause}
 use Rattle.protocol.specs.Calls.{openSenderOf}
-use Rattle.layout.specs.State.{stateLen, settingsAt}
+use Rattle.frames.specs.Fields.{settingsAt}
+use Rattle.layout.specs.State.{stateLen}
 use Rattle.tob.specs.Calls.{Opening}
 use Rattle.tob.proofs.Outcomes.{opened-length, senderLeft, sender-caused, sender-uncaused}
 use Rattle.tob.proofs.openings.tob_open_sender.Statement.{statement}

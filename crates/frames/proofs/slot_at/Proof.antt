@@ -1,8 +1,8 @@
 -- The four bytes, each read at its place.
 use borrow.Author.Needs.{needs}
-use Rattle.layout.specs.State.{slotAt}
-use Rattle.layout.proofs.state.slot_at.Statement.{statement}
-use Rattle.layout.proofs.state.slot_at.Tie as tie
+use Rattle.frames.specs.Fields.{slotAt}
+use Rattle.frames.proofs.slot_at.Statement.{statement}
+use Rattle.frames.proofs.slot_at.Tie as tie
 
 returns : tie.Need-returns
 unfolding slotAt

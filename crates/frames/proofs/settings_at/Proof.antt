@@ -1,9 +1,9 @@
 -- The five bytes, each read at its place.
 use borrow.Author.Needs.{needs}
 use mathlib.Core.Path.{refl}
-use Rattle.layout.specs.State.{settingsAt}
-use Rattle.layout.proofs.state.settings_at.Statement.{statement}
-use Rattle.layout.proofs.state.settings_at.Tie as tie
+use Rattle.frames.specs.Fields.{settingsAt}
+use Rattle.frames.proofs.settings_at.Statement.{statement}
+use Rattle.frames.proofs.settings_at.Tie as tie
 
 returns : tie.Need-returns
 unfolding settingsAt
