@@ -1,6 +1,4 @@
 // Plays the recording on standard input: reads it to its end, and prints it buffer by buffer.
-mod input;
-
 use code::Settings;
 use libc::STDERR_FILENO;
 use libc::STDIN_FILENO;

@@ -1,15 +1,15 @@
-// Reading standard input to its end.
+// Reading a file, as standard input, to its end.
 ghost use Prim.Native.Nat.{_≤_};
 ghost use lib.ListN.{length};
 
 // How much was read, and whether a read failed, which is not the end.
-pub(crate) struct Input {
-    pub(crate) len: usize,
-    pub(crate) failed: bool,
+pub struct Input {
+    pub len: usize,
+    pub failed: bool,
 }
 
 // Reads until the end, or until the buffer is full; a read may deliver only a piece.
-pub(crate) fn read_all(fd: i32, buf: &mut [u8]) -> Input
+pub fn read_all(fd: i32, buf: &mut [u8]) -> Input
     ensures { λ r. ⌜ r .len ≤ length (now (buf .exit)) ⌝ }
 {
     let mut done: usize = 0;
