@@ -12,7 +12,7 @@ use Rattle.protocol.specs.declared.Cause.the-variants.{BadSettings, BadLength, 
 use Rattle.protocol.specs.Lengths.{lastSlot, messageLen, frameLen, receiverLen}
 use Rattle.protocol.specs.Frame.{mark, five, slotBytes}
 use Rattle.protocol.specs.declared.Answer.the-variants as answer
-use Rattle.protocol.specs.Causes.{agree, lossCause, frameCause}
+use Rattle.protocol.specs.Causes.{agree, lossCause, frameCauseOf}
 use Rattle.protocol.proofs.CauseTables.{fails}
 
 -- ---- the report of a loss
@@ -48,44 +48,44 @@ abbrev pub frameLengths : Receiver → List ℕ → List ℕ → List ℕ → Bo
 frameLengths x rows frame message =
     eqb (length rows) (receiverLen (x .settings)) && eqb (length frame) (frameLen (x .settings)) && eqb (length message) (messageLen (x .settings))
 
-module _ (x : Receiver) (rows frame message : List ℕ) where
-  pub frame-settings : accepted (x .settings) ≡ false → frameCause x rows frame message ≡ answer.Refused BadSettings
-  unfolding frameCause
+module _ (version : ℕ) (x : Receiver) (rows frame message : List ℕ) where
+  pub frame-settings : accepted (x .settings) ≡ false → frameCauseOf version x rows frame message ≡ answer.Refused BadSettings
+  unfolding frameCauseOf
   frame-settings e = rw e
 
   module _ (ok : T (accepted (x .settings))) where
-    pub frame-length : frameLengths x rows frame message ≡ false → frameCause x rows frame message ≡ answer.Refused BadLength
-    unfolding frameCause
+    pub frame-length : frameLengths x rows frame message ≡ false → frameCauseOf version x rows frame message ≡ answer.Refused BadLength
+    unfolding frameCauseOf
     frame-length e = rw (fails (accepted (x .settings)) ok, e)
 
     module _ (exact : frameLengths x rows frame message ≡ true) where
-      pub frame-late : lastSlot < x .due → frameCause x rows frame message ≡ answer.Refused PastLastSlot
-      unfolding frameCause
+      pub frame-late : lastSlot < x .due → frameCauseOf version x rows frame message ≡ answer.Refused PastLastSlot
+      unfolding frameCauseOf
       frame-late late =
           rw (fails (accepted (x .settings)) ok, exact, lt-ltb lastSlot (x .due) late)
 
       module _ (time : x .due ≤ lastSlot) where
-        pub frame-mark : agree 5 frame (mark 1) ≡ false → frameCause x rows frame message ≡ answer.Refused OtherMark
-        unfolding frameCause
+        pub frame-mark : agree 5 frame (mark version) ≡ false → frameCauseOf version x rows frame message ≡ answer.Refused OtherMark
+        unfolding frameCauseOf
         frame-mark e =
             rw (fails (accepted (x .settings)) ok, exact, le-ltb lastSlot (x .due) time, e)
 
-        module _ (marked : agree 5 frame (mark 1) ≡ true) where
+        module _ (marked : agree 5 frame (mark version) ≡ true) where
           pub frame-five : agree 5 (drop 5 frame) (five (x .settings)) ≡ false
-              → frameCause x rows frame message ≡ answer.Refused OtherSettings
-          unfolding frameCause
+              → frameCauseOf version x rows frame message ≡ answer.Refused OtherSettings
+          unfolding frameCauseOf
           frame-five e =
               rw (fails (accepted (x .settings)) ok, exact, le-ltb lastSlot (x .due) time, marked, e)
 
           module _ (own : agree 5 (drop 5 frame) (five (x .settings)) ≡ true) where
             pub frame-slot : agree 4 (drop 10 frame) (slotBytes (x .due)) ≡ false
-                → frameCause x rows frame message ≡ answer.Refused OtherSlot
-            unfolding frameCause
+                → frameCauseOf version x rows frame message ≡ answer.Refused OtherSlot
+            unfolding frameCauseOf
             frame-slot e =
                 rw (fails (accepted (x .settings)) ok, exact, le-ltb lastSlot (x .due) time, marked, own, e)
 
             pub frame-clear : agree 4 (drop 10 frame) (slotBytes (x .due)) ≡ true
-                → frameCause x rows frame message ≡ answer.Accepted
-            unfolding frameCause
+                → frameCauseOf version x rows frame message ≡ answer.Accepted
+            unfolding frameCauseOf
             frame-clear e =
                 rw (fails (accepted (x .settings)) ok, exact, le-ltb lastSlot (x .due) time, marked, own, e)

@@ -13,7 +13,7 @@ ghost use mathlib.Core.Bool.{_&&_};
 ghost use mathlib.Core.Path.{_≡_};
 ghost use lib.Dec.{eqb};
 ghost use Rattle.protocol.specs.Lengths.{messageLen, frameLen, receiverLen};
-ghost use Rattle.protocol.specs.Causes.{frameCause};
+ghost use Rattle.protocol.specs.Causes.{frameCauseOf};
 
 // Whether the rows, the frame and the message buffer have their lengths.
 fn exact_frame(s: Settings, rows: usize, frame: usize, message: usize) -> bool
@@ -28,9 +28,9 @@ fn exact_frame(s: Settings, rows: usize, frame: usize, message: usize) -> bool
     message == message_len(s)
 }
 
-// The first cause that holds for the report of a frame, if any.
-pub fn frame_cause(x: Receiver, rows: &[u8], frame: &[u8], message: &[u8]) -> Answer
-    ensures { λ r. ⌜ r ≡ frameCause x (now (rows .entry)) (now (frame .entry)) (now (message .entry)) ⌝ }
+// The first cause that holds for the report of a frame of this version, if any.
+pub fn frame_cause(version: u16, x: Receiver, rows: &[u8], frame: &[u8], message: &[u8]) -> Answer
+    ensures { λ r. ⌜ r ≡ frameCauseOf version x (now (rows .entry)) (now (frame .entry)) (now (message .entry)) ⌝ }
 {
     let s = x.settings;
     if !s.accepted() {
@@ -42,7 +42,7 @@ pub fn frame_cause(x: Receiver, rows: &[u8], frame: &[u8], message: &[u8]) -> An
     if Slot::LAST.0 < x.due {
         return Answer::Refused(Cause::PastLastSlot);
     }
-    let head = header_bytes(s, x.due);
+    let head = header_bytes(version, s, x.due);
     if !agrees(frame, head, 0, 5) {
         return Answer::Refused(Cause::OtherMark);
     }

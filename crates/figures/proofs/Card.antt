@@ -18,7 +18,7 @@ use Rattle.elimination.specs.Elimination.{combined, clashes, differs, symbolOf}
 use Rattle.protocol.specs.Lengths.{lastSlot, messageLen, bodyLen, frameLen, senderLen, rowLen, rowCount, receiverLen}
 use Rattle.protocol.specs.Rows.{putRow, joined}
 use Rattle.protocol.specs.Frame.{mark, five, slotBytes, header, remembered, sentSymbol, bodyOf, frameOf}
-use Rattle.protocol.specs.Causes.{agree, openCause, sendCause, lossCause, frameCause}
+use Rattle.protocol.specs.Causes.{agree, openCause, sendCause, lossCause, frameCauseOf}
 use Rattle.protocol.specs.Verdict.{rowAt, reportedAt, arrived, someCodeword}
 use Rattle.protocol.specs.Calls.{OpenedReceiver, openSenderOf, sendOf, receivedZeros, openReceiverOf, messageDue}
 use Rattle.protocol.specs.TwoLists.{sends, ReportMade}
@@ -72,7 +72,7 @@ unfolding figures rowOf parity unitParities table
     putRow frameOf bodyOf sentSymbol remembered header mark five slotBytes
     calls reportsOf openReceiverOf receivedZeros joined rowLen rowCount receiverLen small smallFrames
     quickTold toldBy quickReports quickReport quickMoved quickReply verdictBy bufferBy quickSymbol
-    lossCause frameCause agree messageDue someCodeword arrived rowAt reportedAt
+    lossCause frameCauseOf agree messageDue someCodeword arrived rowAt reportedAt
     cell free pivotFrom scaledAt cleared pivoted columnStep firstRoles columns eliminated combined clashes differs symbolOf
 rows =
     let told-so : (fates : List Fate) → T (smallFrames (calls (setTo 3 2 2) fates))

@@ -22,7 +22,7 @@ use Rattle.protocol.specs.Lengths.{lastSlot, messageLen, bodyLen, frameLen, row
 use Rattle.protocol.specs.Rows.{putRow, joined}
 use Rattle.protocol.specs.Frame.{mark, five, slotBytes, header}
 use Rattle.protocol.specs.declared.Answer.the-variants as answer
-use Rattle.protocol.specs.Causes.{agree, openCause, lossCause, frameCause}
+use Rattle.protocol.specs.Causes.{agree, openCause, lossCause, frameCauseOf}
 use Rattle.protocol.specs.Verdict.{rowAt, reportedAt, arrived, someCodeword}
 use Rattle.protocol.specs.Calls.{OpenedReceiver, receivedZeros, openReceiverOf, Reported, messageDue, lossOf, heardOf}
 use Rattle.protocol.specs.TwoLists.{Report, heard, missed, reportOf}
@@ -144,7 +144,7 @@ unfolding quickTranscript exampleLines quickPlayed quickSkipped andThen pieces s
     _⊕_ _⊗_ high low byte eight alpha reciprocal first quotient widen sum every any
     delayOf kOf nOf dOf all accepted point factor product spread alphaEntry entry wordAt multipliers symbol unit systematicOf
     lastSlot messageLen bodyLen frameLen rowLen rowCount receiverLen putRow joined header mark five slotBytes
-    openReceiverOf openCause receivedZeros lossCause frameCause agree messageDue someCodeword arrived rowAt reportedAt
+    openReceiverOf openCause receivedZeros lossCause frameCauseOf agree messageDue someCodeword arrived rowAt reportedAt
     quickReport quickMoved quickReply verdictBy bufferBy quickSymbol
     cell free pivotFrom scaledAt cleared pivoted columnStep firstRoles columns eliminated combined clashes differs symbolOf
 computed = refl

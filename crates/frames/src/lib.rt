@@ -56,7 +56,7 @@ pub fn header_cause(s: Settings, frame: &[u8]) -> Answer
     requires { ⌜ 14 ≤ length (now frame) ⌝ }
     ensures { λ r. ⌜ r ≡ headerCause s (now (frame .entry)) ⌝ }
 {
-    let head = header_bytes(s, 0);
+    let head = header_bytes(1, s, 0);
     if !agrees(frame, head, 0, 5) {
         return Answer::Refused(Cause::OtherMark);
     }

@@ -51,7 +51,7 @@ module _ (x : Receiver) (rows message : List ℕ) where
       go : (f : Answer) → frameCause x rows frame message ≡ f → length (heardOf x rows frame message .message) ≡ length message
       go answer.Accepted is =
           rw (heard-moves x rows frame message is)
-          (moved-length x (1 ∷ drop 14 frame) rows ∙ sym (frame-open x rows message frame is .message-exact))
+          (moved-length x (1 ∷ drop 14 frame) rows ∙ sym (frame-open x rows message 1 frame is .message-exact))
       go (answer.Refused c) is = rw (heard-stays x rows frame message c is)
 
 -- any step

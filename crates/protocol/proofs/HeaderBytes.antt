@@ -33,13 +33,13 @@ agree-from m k n frame front part cut room places =
     ∙ sym (getD-drop k front i 0) ∙ places i h in
     rw same (eqb-refl (getD part i 0)))
 
-module _ (s : Settings) (due : ℕ) (frame : List ℕ) where
+module _ (version : ℕ) (s : Settings) (due : ℕ) (frame : List ℕ) where
   -- the tests pass, so the first 14 bytes are the header
-  pub tests-header : 14 ≤ length frame → T (agree 5 frame (mark 1)) → T (agree 5 (drop 5 frame) (five s))
-      → T (agree 4 (drop 10 frame) (slotBytes due)) → take 14 frame ≡ header 1 s due
+  pub tests-header : 14 ≤ length frame → T (agree 5 frame (mark version)) → T (agree 5 (drop 5 frame) (five s))
+      → T (agree 4 (drop 10 frame) (slotBytes due)) → take 14 frame ≡ header version s due
   unfolding header mark five slotBytes
   tests-header enough m f t =
-      let first : take 5 frame ≡ mark 1 = agree-take 5 frame (mark 1) (omega arith) refl m in
+      let first : take 5 frame ≡ mark version = agree-take 5 frame (mark version) (omega arith) refl m in
       let second : take 5 (drop 5 frame) ≡ five s
       = agree-take 5 (drop 5 frame) (five s) (omega (arith, length-drop 5 frame)) refl f in
       let third : take 4 (drop 10 frame) ≡ slotBytes due
@@ -47,16 +47,16 @@ module _ (s : Settings) (due : ℕ) (frame : List ℕ) where
       take-add 10 4 frame ∙ ap₂ _++_ (take-add 5 5 frame ∙ ap₂ _++_ first second) third
 
   -- and the other way round
-  pub header-mark : take 14 frame ≡ header 1 s due → T (agree 5 frame (mark 1))
+  pub header-mark : take 14 frame ≡ header version s due → T (agree 5 frame (mark version))
   unfolding header mark
-  header-mark e = agree-from 5 0 14 frame (header 1 s due) (mark 1) e (omega arith)
-      (λ i h. List·getD-append (mark 1) (five s ++ slotBytes due) 0 i h)
+  header-mark e = agree-from 5 0 14 frame (header version s due) (mark version) e (omega arith)
+      (λ i h. List·getD-append (mark version) (five s ++ slotBytes due) 0 i h)
 
-  pub header-five : take 14 frame ≡ header 1 s due → T (agree 5 (drop 5 frame) (five s))
+  pub header-five : take 14 frame ≡ header version s due → T (agree 5 (drop 5 frame) (five s))
   unfolding header mark five
-  header-five e = agree-from 5 5 14 frame (header 1 s due) (five s) e (omega arith)
+  header-five e = agree-from 5 5 14 frame (header version s due) (five s) e (omega arith)
       (λ i h. List·getD-append (five s) (slotBytes due) 0 i h)
 
-  pub header-slot : take 14 frame ≡ header 1 s due → T (agree 4 (drop 10 frame) (slotBytes due))
+  pub header-slot : take 14 frame ≡ header version s due → T (agree 4 (drop 10 frame) (slotBytes due))
   unfolding header mark five
-  header-slot e = agree-from 4 10 14 frame (header 1 s due) (slotBytes due) e (omega arith) (λ i h. refl)
+  header-slot e = agree-from 4 10 14 frame (header version s due) (slotBytes due) e (omega arith) (λ i h. refl)

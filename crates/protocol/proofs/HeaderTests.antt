@@ -15,8 +15,8 @@ use Rattle.protocol.specs.Causes.{agree}
 abbrev pub agreeFrom : List ℕ → List ℕ → ℕ → ℕ → Bool
 agreeFrom frame head first m = every m (λ i. eqb (getD frame (first + i) 0) (getD head (first + i) 0))
 
-module _ (s : Settings) (due : ℕ) (frame head : List ℕ) (due-head : head ≡ header 1 s due) where
-  pub mark-test : agreeFrom frame head 0 5 ≡ agree 5 frame (mark 1)
+module _ (version : ℕ) (s : Settings) (due : ℕ) (frame head : List ℕ) (due-head : head ≡ header version s due) where
+  pub mark-test : agreeFrom frame head 0 5 ≡ agree 5 frame (mark version)
   unfolding agree every header mark five slotBytes
   mark-test = ap (λ (h : List ℕ). agreeFrom frame h 0 5) due-head
 

@@ -16,7 +16,7 @@ use Rattle.protocol.specs.declared.Reply.the-variants as reply
 use Rattle.protocol.specs.Lengths.{senderLen, receiverLen}
 use Rattle.protocol.specs.States.{noSender, noReceiver}
 use Rattle.protocol.specs.Causes.{numberOf, check, Row, firstOf}
-use Rattle.protocol.specs.Causes.{openTable, sendTable, lossTable, frameTable, openCause, sendCause, lossCause, frameCause}
+use Rattle.protocol.specs.Causes.{openTable, sendTable, lossTable, frameTable, openCause, sendCause, lossCause, frameCause, frameCauseOf}
 use Rattle.protocol.specs.Calls.{OpenedSender, openSenderOf, Sent, sendOf, OpenedReceiver, openReceiverOf}
 use Rattle.protocol.specs.Calls.{Reported, movedOn, lossOf, heardOf}
 use Rattle.protocol.specs.Histories.{accepts}
@@ -166,11 +166,11 @@ module _ (x : Receiver) (rows frame message : List ℕ) where
   -- a refused frame report leaves the state, the rows and the message as they were
   pub frame-unchanged : (c : Cause) → First c (frameTable x rows frame message)
       → heardOf x rows frame message ≡ record { reply = reply.Refused c; receiver = x; rows = rows; message = message }
-  unfolding heardOf frameCause
+  unfolding heardOf frameCauseOf
   frame-unchanged c h = rw (first-found c (frameTable x rows frame message) h, heardOf)
 
   pub frame-refused : (c : Cause) → (heardOf x rows frame message .reply ≡ reply.Refused c) ↔ First c (frameTable x rows frame message)
-  unfolding frameCause
+  unfolding frameCauseOf
   frame-refused c =
       reply-first c (frameTable x rows frame message) (heardOf x rows frame message .reply)
       (heard-by (frameCause x rows frame message) refl)

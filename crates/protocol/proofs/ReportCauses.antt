@@ -14,7 +14,7 @@ use Rattle.protocol.specs.declared.Cause.the-variants.{BadSettings, BadL
 use Rattle.protocol.specs.Lengths.{lastSlot, messageLen, bodyLen, frameLen, receiverLen}
 use Rattle.protocol.specs.Frame.{mark, five, slotBytes, header}
 use Rattle.protocol.specs.declared.Answer.the-variants as answer
-use Rattle.protocol.specs.Causes.{agree, lossTable, frameTable, lossCause, frameCause}
+use Rattle.protocol.specs.Causes.{agree, lossTable, frameTableOf, lossCause, frameCauseOf}
 use Rattle.protocol.proofs.CauseTables.{none-holds, passes, fails}
 use Rattle.protocol.proofs.HeaderBytes.{tests-header, header-mark, header-five, header-slot}
 
@@ -58,7 +58,7 @@ module _ (x : Receiver) (rows message : List ℕ) where
         le-ltb lastSlot (x .due) (h .in-time),
       )
 
-  module _ (frame : List ℕ) where
+  module _ (version : ℕ) (frame : List ℕ) where
     -- a frame report meets no cause
     pub record FrameOpen : Type 0 where
       pub settings : T (accepted (x .settings))
@@ -66,18 +66,18 @@ module _ (x : Receiver) (rows message : List ℕ) where
       pub frame-exact : length frame ≡ frameLen (x .settings)
       pub message-exact : length message ≡ messageLen (x .settings)
       pub in-time : x .due ≤ lastSlot
-      pub headed : take 14 frame ≡ header 1 (x .settings) (x .due)
+      pub headed : take 14 frame ≡ header version (x .settings) (x .due)
 
-    pub frame-open : frameCause x rows frame message ≡ answer.Accepted → FrameOpen
-    unfolding frameCause frameLen
+    pub frame-open : frameCauseOf version x rows frame message ≡ answer.Accepted → FrameOpen
+    unfolding frameCauseOf frameLen
     frame-open e =
         let lengths : Bool
         = eqb (length rows) (receiverLen (x .settings)) && eqb (length frame) (frameLen (x .settings))
         && eqb (length message) (messageLen (x .settings)) in
-        let marked : Bool = agree 5 frame (mark 1) in
+        let marked : Bool = agree 5 frame (mark version) in
         let fived : Bool = agree 5 (drop 5 frame) (five (x .settings)) in
         let slotted : Bool = agree 4 (drop 10 frame) (slotBytes (x .due)) in
-        let none = none-holds (frameTable x rows frame message) e in
+        let none = none-holds (frameTableOf version x rows frame message) e in
         let exact
         = three-equal (length rows) (receiverLen (x .settings)) (length frame) (frameLen (x .settings)) (length message)
         (messageLen (x .settings)) (passes lengths (none BadLength)) in
@@ -88,12 +88,12 @@ module _ (x : Receiver) (rows message : List ℕ) where
           frame-exact = long;
           message-exact = exact .2;
           in-time = ltb-false lastSlot (x .due) (none PastLastSlot);
-          headed = tests-header (x .settings) (x .due) frame (omega arith)
+          headed = tests-header version (x .settings) (x .due) frame (omega arith)
               (passes marked (none OtherMark)) (passes fived (none OtherSettings)) (passes slotted (none OtherSlot));
         }
 
-    pub frame-clear : FrameOpen → frameCause x rows frame message ≡ answer.Accepted
-    unfolding frameCause
+    pub frame-clear : FrameOpen → frameCauseOf version x rows frame message ≡ answer.Accepted
+    unfolding frameCauseOf
     frame-clear h =
         rw (
           fails (accepted (x .settings)) (h .settings),
@@ -101,7 +101,7 @@ module _ (x : Receiver) (rows message : List ℕ) where
           eq-eqb (length frame) (frameLen (x .settings)) (h .frame-exact),
           eq-eqb (length message) (messageLen (x .settings)) (h .message-exact),
           le-ltb lastSlot (x .due) (h .in-time),
-          fails (agree 5 frame (mark 1)) (header-mark (x .settings) (x .due) frame (h .headed)),
-          fails (agree 5 (drop 5 frame) (five (x .settings))) (header-five (x .settings) (x .due) frame (h .headed)),
-          fails (agree 4 (drop 10 frame) (slotBytes (x .due))) (header-slot (x .settings) (x .due) frame (h .headed)),
+          fails (agree 5 frame (mark version)) (header-mark version (x .settings) (x .due) frame (h .headed)),
+          fails (agree 5 (drop 5 frame) (five (x .settings))) (header-five version (x .settings) (x .due) frame (h .headed)),
+          fails (agree 4 (drop 10 frame) (slotBytes (x .due))) (header-slot version (x .settings) (x .due) frame (h .headed)),
         )

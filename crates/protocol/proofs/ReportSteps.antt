@@ -90,7 +90,7 @@ module _ (x : Receiver) (rows : List ℕ) (ok : T (accepted (x .settings))) (exa
       → Taken (made x rows (heard frame message)) ⊎ Stayed (made x rows (heard frame message))
   unfolding reportOf rowOf
   heard-step frame message answer.Accepted e =
-      let h = frame-open x rows message frame e in
+      let h = frame-open x rows message 1 frame e in
       inl (taken x rows (heard frame message) (h .message-exact, h .frame-exact, h .in-time, h .headed)
       (heard-moves x rows frame message e))
   heard-step frame message (answer.Refused c) e =
@@ -98,7 +98,7 @@ module _ (x : Receiver) (rows : List ℕ) (ok : T (accepted (x .settings))) (exa
       (stayed x rows (heard frame message) c message
       (λ h.
       never (frameCause x rows frame message) c e
-      (frame-clear x rows message frame record {
+      (frame-clear x rows message 1 frame record {
         settings = ok;
         rows-exact = exact;
         frame-exact = h .1;

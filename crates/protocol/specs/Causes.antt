@@ -69,17 +69,21 @@ lossTable x rows message =
     ∷ row (ltb lastSlot (x .due)) PastLastSlot
     ∷ []
 
--- a frame report meets all of them
-abbrev pub frameTable : Receiver → List ℕ → List ℕ → List ℕ → List Row
-frameTable x rows frame message =
+-- the report of a frame of this version meets all of them
+abbrev pub frameTableOf : ℕ → Receiver → List ℕ → List ℕ → List ℕ → List Row
+frameTableOf version x rows frame message =
     let s = x .settings in
     row (not (accepted s)) BadSettings
     ∷ row (not (eqb (length rows) (receiverLen s) && eqb (length frame) (frameLen s) && eqb (length message) (messageLen s))) BadLength
     ∷ row (ltb lastSlot (x .due)) PastLastSlot
-    ∷ row (not (agree 5 frame (mark 1))) OtherMark
+    ∷ row (not (agree 5 frame (mark version))) OtherMark
     ∷ row (not (agree 5 (drop 5 frame) (five s))) OtherSettings
     ∷ row (not (agree 4 (drop 10 frame) (slotBytes (x .due)))) OtherSlot
     ∷ []
+
+-- frames are of version 1
+abbrev pub frameTable : Receiver → List ℕ → List ℕ → List ℕ → List Row
+frameTable = frameTableOf 1
 
 -- what each table says
 unfoldable pub openCause : Settings → ℕ → List ℕ → Answer
@@ -91,5 +95,8 @@ sendCause x rows message frame = firstOf (sendTable x rows message frame)
 unfoldable pub lossCause : Receiver → List ℕ → List ℕ → Answer
 lossCause x rows message = firstOf (lossTable x rows message)
 
-unfoldable pub frameCause : Receiver → List ℕ → List ℕ → List ℕ → Answer
-frameCause x rows frame message = firstOf (frameTable x rows frame message)
+unfoldable pub frameCauseOf : ℕ → Receiver → List ℕ → List ℕ → List ℕ → Answer
+frameCauseOf version x rows frame message = firstOf (frameTableOf version x rows frame message)
+
+abbrev pub frameCause : Receiver → List ℕ → List ℕ → List ℕ → Answer
+frameCause = frameCauseOf 1

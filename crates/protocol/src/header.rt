@@ -8,15 +8,15 @@ ghost use Rattle.galois.specs.Bounded.{every};
 ghost use Rattle.protocol.specs.Frame.{header};
 
 // The mark and the version, W, T, B, N and L, and the slot, high byte first.
-pub fn header_bytes(s: Settings, due: u32) -> [u8; 14]
-    ensures { λ r. ⌜ r ≡ header 1 s due ⌝ }
+pub fn header_bytes(version: u16, s: Settings, due: u32) -> [u8; 14]
+    ensures { λ r. ⌜ r ≡ header version s due ⌝ }
 {
     [
         0x54,
         0x4f,
         0x42,
-        0,
-        1,
+        (version / 256 % 256) as u8,
+        (version % 256) as u8,
         s.window,
         s.delay,
         s.burst,

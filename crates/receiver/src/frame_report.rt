@@ -14,7 +14,7 @@ pub fn heard(x: Receiver, rows: &mut [u8], frame: &[u8], message: &mut [u8]) -> 
     ensures { λ r. ⌜ record { reply = r .reply; receiver = r .receiver; rows = now (rows .exit); message = now (message .exit) } ≡ heardOf x (now (rows .entry)) (now (frame .entry)) (now (message .entry)) ⌝ }
 {
     let s = x.settings;
-    let found = frame_cause(x, rows, frame, message);
+    let found = frame_cause(1, x, rows, frame, message);
     if let Answer::Refused(c) = found {
         return refused(c, x);
     }

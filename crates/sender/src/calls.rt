@@ -73,7 +73,7 @@ pub fn send(x: Sender, rows: &mut [u8], message: &[u8], frame: &mut [u8]) -> Sen
     if Slot::LAST.0 < x.due {
         return refused(Cause::PastLastSlot, x);
     }
-    write_frame(frame, rows, message, s, x.due);
+    write_frame(frame, rows, message, 1, s, x.due);
     remember(rows, message, s, x.due);
     let next = x.next();
     Sent {

@@ -10,13 +10,20 @@ ghost use Rattle.code.specs.Settings.{accepted};
 ghost use Rattle.protocol.specs.Frame.{frameOf};
 ghost use Rattle.protocol.specs.Lengths.{messageLen, frameLen, senderLen};
 
-// Writes the frame of the slot due, from the message and the rows.
-pub(crate) fn write_frame(frame: &mut [u8], rows: &[u8], message: &[u8], s: Settings, due: u32)
+// Writes the frame of this version for the slot due, from the message and the rows.
+pub(crate) fn write_frame(
+    frame: &mut [u8],
+    rows: &[u8],
+    message: &[u8],
+    version: u16,
+    s: Settings,
+    due: u32,
+)
     requires { ⌜ T (accepted s) × (length (now rows) ≡ senderLen s) × (length (now message) ≡ messageLen s)
         × (length (now frame) ≡ frameLen s) ⌝ }
-    ensures { λ _. ⌜ now (frame .exit) ≡ frameOf 1 s (now (rows .entry)) (now (message .entry)) due ⌝ }
+    ensures { λ _. ⌜ now (frame .exit) ≡ frameOf version s (now (rows .entry)) (now (message .entry)) due ⌝ }
 {
-    let head = header_bytes(s, due);
+    let head = header_bytes(version, s, due);
     write_at(frame, 0, &head);
     write_at(frame, 14, message);
     let start = 14 + message.len();

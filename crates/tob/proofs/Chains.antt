@@ -194,7 +194,7 @@ module _ (state rows : List ℕ) (none : stateCause receiverEnd state ≡ answer
   heard-next : (frame message : List ℕ) (found : Answer) → frameCause y rows frame message ≡ found → After (heardOf y rows frame message)
   heard-next frame message answer.Accepted e =
       subst⁻¹ After (steps.heard-moves y rows frame message e)
-      (moved-next (1 ∷ drop 14 frame) (frame-open y rows message frame e .in-time))
+      (moved-next (1 ∷ drop 14 frame) (frame-open y rows message 1 frame e .in-time))
   heard-next frame message (answer.Refused c) e = subst⁻¹ After (steps.heard-stays y rows frame message c e) (stayed-next c message)
 
   lost-next : (message : List ℕ) (found : Answer) → lossCause y rows message ≡ found → After (lossOf y rows message)

@@ -13,7 +13,7 @@ use Rattle.protocol.specs.declared.Cause.the-variants.{BadSettings, BadLength}
 use Rattle.protocol.specs.Lengths.{senderLen, receiverLen}
 use Rattle.protocol.specs.declared.Answer.{Answer}
 use Rattle.protocol.specs.declared.Answer.the-variants as answer
-use Rattle.protocol.specs.Causes.{numberOf, row, firstOf, openTable, sendTable, lossTable, frameTable, openCause, sendCause, lossCause, frameCause}
+use Rattle.protocol.specs.Causes.{numberOf, row, firstOf, openTable, sendTable, lossTable, frameTable, openCause, sendCause, lossCause, frameCause, frameCauseOf}
 use Rattle.protocol.specs.Calls.{OpenedSender, OpenedReceiver, Sent, Reported, openSenderOf, sendOf, openReceiverOf, movedOn, heardOf, lossOf}
 use Rattle.protocol.specs.Histories.{accepts}
 use Rattle.protocol.proofs.CauseTables.{none-holds, followedBy, one-below, passes}
@@ -57,7 +57,7 @@ module _ (state rows message : List ℕ) where
 
   pub heard-cause : (frame : List ℕ)
       → heardBytesCause state rows frame message ≡ followedBy (stateCause receiverEnd state) (frameCause (receiverIn state) rows frame message)
-  unfolding stateCause frameCause heardBytesCause
+  unfolding stateCause frameCauseOf heardBytesCause
   heard-cause frame = one-below (stateTable receiverEnd state) (frameTable (receiverIn state) rows frame message)
 
   pub lost-cause : lostBytesCause state rows message ≡ followedBy (stateCause receiverEnd state) (lossCause (receiverIn state) rows message)

@@ -63,22 +63,22 @@ fifth c = c .before .before
 abbrev begun : tie.Else3 → tie.Start
 begun c = start (first (second c))
 
-marked : (c : tie.Else4) → agree 5 (now (begun (third c) .args .frame)) (mark 1) ≡ true
+marked : (c : tie.Else4) → let a = begun (third c) .args in agree 5 (now (a .frame)) (mark (a .version)) ≡ true
 marked c =
     let a = begun (third c) .args in
-    sym (mark-test (a .x .settings) (a .x .due) (now (a .frame)) _ (c .before .before .header-bytes .ensures))
+    sym (mark-test (a .version) (a .x .settings) (a .x .due) (now (a .frame)) _ (c .before .before .header-bytes .ensures))
     ∙ sym (c .before .agrees .ensures) ∙ not-false (c .before .agrees .result) (c .if4 .left)
 
 own : (c : tie.Else5) → let a = begun (third (fourth c)) .args in agree 5 (drop 5 (now (a .frame))) (five (a .x .settings)) ≡ true
 own c =
     let a = begun (third (fourth c)) .args in
-    sym (five-test (a .x .settings) (a .x .due) (now (a .frame)) _ (fourth c .before .before .header-bytes .ensures))
+    sym (five-test (a .version) (a .x .settings) (a .x .due) (now (a .frame)) _ (fourth c .before .before .header-bytes .ensures))
     ∙ sym (c .before .agrees2 .ensures) ∙ not-false (c .before .agrees2 .result) (c .if5 .left)
 
 due : (c : tie.Else6) → let a = begun (third (fourth (fifth c))) .args in agree 4 (drop 10 (now (a .frame))) (slotBytes (a .x .due)) ≡ true
 due c =
     let a = begun (third (fourth (fifth c))) .args in
-    sym (slot-test (a .x .settings) (a .x .due) (now (a .frame)) _ (fourth (fifth c) .before .before .header-bytes .ensures))
+    sym (slot-test (a .version) (a .x .settings) (a .x .due) (now (a .frame)) _ (fourth (fifth c) .before .before .header-bytes .ensures))
     ∙ sym (c .before .agrees3 .ensures) ∙ not-false (c .before .agrees3 .result) (c .if6 .left)
 
 -- the frame has a header
@@ -92,14 +92,14 @@ returns : tie.Need-returns
 returns c =
     let at = c .before in
     let a = at .before .before .before .before .before .args in
-    sym (frame-settings (a .x) (now (a .rows)) (now (a .frame)) (now (a .message))
+    sym (frame-settings (a .version) (a .x) (now (a .rows)) (now (a .frame)) (now (a .message))
     (sym (at .accepted .ensures) ∙ not-true (at .accepted .result) (c .if1 .taken)))
 
 returns-2 : tie.Need-returns-2
 returns-2 c =
     let at = c .before in
     let a = start (at .before) .args in
-    sym (frame-length (a .x) (now (a .rows)) (now (a .frame)) (now (a .message)) (passed (at .before))
+    sym (frame-length (a .version) (a .x) (now (a .rows)) (now (a .frame)) (now (a .message)) (passed (at .before))
     (sym (at .exact-frame .ensures) ∙ not-true (at .exact-frame .result) (c .if2 .taken)))
 
 returns-3 : tie.Need-returns-3
@@ -107,16 +107,16 @@ unfolding lastSlot
 returns-3 c =
     let two = c .before .before .before in
     let a = start (first two) .args in
-    sym (frame-late (a .x) (now (a .rows)) (now (a .frame)) (now (a .message)) (passed (first two)) (exact two) (c .if3 .taken))
+    sym (frame-late (a .version) (a .x) (now (a .rows)) (now (a .frame)) (now (a .message)) (passed (first two)) (exact two) (c .if3 .taken))
 
 returns-4 : tie.Need-returns-4
 returns-4 c =
     let at = c .before in
     let three = at .before .before in
     let a = begun three .args in
-    sym (frame-mark (a .x) (now (a .rows)) (now (a .frame)) (now (a .message)) (passed (first (second three))) (exact (second three))
+    sym (frame-mark (a .version) (a .x) (now (a .rows)) (now (a .frame)) (now (a .message)) (passed (first (second three))) (exact (second three))
     (time three)
-    (sym (mark-test (a .x .settings) (a .x .due) (now (a .frame)) _ (at .before .header-bytes .ensures))
+    (sym (mark-test (a .version) (a .x .settings) (a .x .due) (now (a .frame)) _ (at .before .header-bytes .ensures))
     ∙ sym (at .agrees .ensures) ∙ not-true (at .agrees .result) (c .if4 .taken)))
 
 returns-5 : tie.Need-returns-5
@@ -125,9 +125,9 @@ returns-5 c =
     let four = at .before in
     let three = third four in
     let a = begun three .args in
-    sym (frame-five (a .x) (now (a .rows)) (now (a .frame)) (now (a .message)) (passed (first (second three))) (exact (second three))
+    sym (frame-five (a .version) (a .x) (now (a .rows)) (now (a .frame)) (now (a .message)) (passed (first (second three))) (exact (second three))
     (time three) (marked four)
-    (sym (five-test (a .x .settings) (a .x .due) (now (a .frame)) _ (four .before .before .header-bytes .ensures))
+    (sym (five-test (a .version) (a .x .settings) (a .x .due) (now (a .frame)) _ (four .before .before .header-bytes .ensures))
     ∙ sym (at .agrees2 .ensures) ∙ not-true (at .agrees2 .result) (c .if5 .taken)))
 
 returns-6 : tie.Need-returns-6
@@ -137,9 +137,9 @@ returns-6 c =
     let four = fourth five in
     let three = third four in
     let a = begun three .args in
-    sym (frame-slot (a .x) (now (a .rows)) (now (a .frame)) (now (a .message)) (passed (first (second three))) (exact (second three))
+    sym (frame-slot (a .version) (a .x) (now (a .rows)) (now (a .frame)) (now (a .message)) (passed (first (second three))) (exact (second three))
     (time three) (marked four) (own five)
-    (sym (slot-test (a .x .settings) (a .x .due) (now (a .frame)) _ (four .before .before .header-bytes .ensures))
+    (sym (slot-test (a .version) (a .x .settings) (a .x .due) (now (a .frame)) _ (four .before .before .header-bytes .ensures))
     ∙ sym (at .agrees3 .ensures) ∙ not-true (at .agrees3 .result) (c .if6 .taken)))
 
 returns-7 : tie.Need-returns-7
@@ -149,7 +149,7 @@ returns-7 c =
     let three = third four in
     let two = second three in
     let a = begun three .args in
-    sym (frame-clear (a .x) (now (a .rows)) (now (a .frame)) (now (a .message)) (passed (first two)) (exact two) (time three)
+    sym (frame-clear (a .version) (a .x) (now (a .rows)) (now (a .frame)) (now (a .message)) (passed (first two)) (exact two) (time three)
     (marked four) (own five) (due c))
 
 pub frame-cause-spec : {M : Type 1} → statement M

@@ -46,10 +46,10 @@ uncaused : (c : tie.After-enum-told)
     → let a = begun c .args in frameCause (a .x) (now (a .rows)) (now (a .frame)) (now (a .message)) ≡ answer.Accepted
 uncaused c = sym (c .before .before .frame-cause .ensures) ∙ c .enum-told .given .1
 
-clear : (c : tie.After-enum-told) → let a = begun c .args in FrameOpen (a .x) (now (a .rows)) (now (a .message)) (now (a .frame))
+clear : (c : tie.After-enum-told) → let a = begun c .args in FrameOpen (a .x) (now (a .rows)) (now (a .message)) 1 (now (a .frame))
 clear c =
     let a = begun c .args in
-    frame-open (a .x) (now (a .rows)) (now (a .message)) (now (a .frame)) (uncaused c)
+    frame-open (a .x) (now (a .rows)) (now (a .message)) 1 (now (a .frame)) (uncaused c)
 
 record-heard-requires : tie.Need-record-heard-requires
 record-heard-requires c κs = let f = clear (c .before) in (f .settings, f .rows-exact, f .frame-exact)

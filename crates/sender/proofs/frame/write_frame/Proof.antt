@@ -21,7 +21,7 @@ use Rattle.sender.proofs.frame.write_frame.Tie as tie
 fourteen : (c : tie.After-header-bytes) → length (c .header-bytes .result) ≡ 14
 fourteen c =
     let a = c .before .before .before .before .args in
-    ap length (c .header-bytes .ensures) ∙ length-header 1 (a .s) (a .due)
+    ap length (c .header-bytes .ensures) ∙ length-header (a .version) (a .s) (a .due)
 
 -- where the call began
 abbrev begun : tie.After-header-bytes → tie.Start
@@ -89,7 +89,7 @@ returns c =
     three-written (now (a .frame)) (made .header-bytes .result) message (first at .write-at .last .0) (frame at) (sent .write-parities .last .0)
     (fourteen made) (first at .write-at .ensures) (second at .write-at2 .ensures)
     ∙ ap₂ (λ (head rest : List ℕ). head ++ (message ++ rest)) (made .header-bytes .ensures) (sent .write-parities .ensures)
-    ∙ ap (λ (body : List ℕ). header 1 (a .s) (a .due) ++ body) (body-split (a .s) (now (a .rows)) message (a .due) (shape (a .s) (from at .pre .0)) (from at .pre .2))
+    ∙ ap (λ (body : List ℕ). header (a .version) (a .s) (a .due) ++ body) (body-split (a .s) (now (a .rows)) message (a .due) (shape (a .s) (from at .pre .0)) (from at .pre .2))
 
 pub write-frame-spec : {M : Type 1} → statement M
 write-frame-spec =
