@@ -7,8 +7,9 @@ use native.Mathlib.Nat.{eq-or-lt-of-le, le-of-suc-le-suc, not-suc-le-zero}
 use native.Mathlib.Omega.{arith}
 use lib.Dec.{ltb, lit<}
 use borrow.Author.Tests.{ltb-true, ltb-false}
-use Rattle.galois.specs.Narrow.{narrow, _⊞_, timesBits, _⊠_, narrowReciprocal, narrowQuotient}
+use Rattle.galois.specs.Narrow.{narrow, _⊞_, timesBits, _⊠_, narrowQuotient}
 use Rattle.galois.proofs.Xor.{plus-cancel}
+use Rattle.galois.proofs.Field.{zero-quotient, quotient-self}
 use Rattle.galois.proofs.NarrowField.{narrows, narrow-plus, above-left, above-right}
 use Rattle.code.specs.declared.settings.Settings.{Settings}
 use Rattle.code.specs.Settings.{delayOf, kOf}
@@ -73,24 +74,26 @@ point-le N i m = go (ltb m i) refl
 
 -- ---- the factors
 
--- a narrow number's reciprocal by the quotient of 1: a quotient is the product with it
+-- to divide is to multiply by 1 divided
 pub factor-once : (i j p : ℕ) → (j ⊞ p) ⊠ narrowQuotient 1 (i ⊞ p) ≡ factor i j p
-unfolding factor narrowQuotient
-factor-once i j p =
-    ap (λ (x : ℕ). (j ⊞ p) ⊠ x)
-    (narrows .one-times (narrowReciprocal (i ⊞ p)) (narrows .reciprocal-below (i ⊞ p) (plus-narrow i p)))
+unfolding factor
+factor-once i j p = sym (narrows .quotient-times (j ⊞ p) (i ⊞ p) (plus-narrow j p) (plus-narrow i p))
+
+-- it is narrow
+pub factor-narrow : (i j p : ℕ) → factor i j p < 16
+unfolding factor
+factor-narrow i j p = narrows .quotient-below (j ⊞ p) (i ⊞ p) (plus-narrow j p) (plus-narrow i p)
 
 -- 0 at its point
 factor-zero : (i j : ℕ) → factor i j j ≡ 0
-unfolding factor narrowQuotient
-factor-zero i j =
-    ap (λ (x : ℕ). x ⊠ narrowReciprocal (i ⊞ j)) (plus-itself j) ∙ zero-times (narrowReciprocal (i ⊞ j))
+unfolding factor
+factor-zero i j = ap (λ (x : ℕ). narrowQuotient x (i ⊞ j)) (plus-itself j) ∙ zero-quotient narrows (i ⊞ j) (plus-narrow i j)
 
 -- 1 at its row
 factor-one : (i p : ℕ) → i < 16 → p < 16 → p ≢ i → factor i i p ≡ 1
-unfolding factor narrowQuotient
+unfolding factor
 factor-one i p hi hp ne =
-    narrows .times-reciprocal (i ⊞ p) (narrows .plus-below i p hi hp)
+    quotient-self narrows (i ⊞ p) (plus-narrow i p)
     (λ e. ne (sym (plus-cancel i p (sym (narrow-plus i p hi hp) ∙ e))))
 
 -- ---- the product

@@ -8,7 +8,7 @@ ghost use mathlib.Core.Path.{_≡_};
 ghost use Prim.Native.Nat.{_<_};
 ghost use lib.Dec.{ltb};
 ghost use lib.ListN.{length};
-ghost use Rattle.galois.specs.Byte.{reciprocal};
+ghost use Rattle.galois.specs.Byte.{Reciprocals};
 ghost use Rattle.galois.specs.Table.{table};
 ghost use Rattle.code.specs.Settings.{kOf};
 ghost use Rattle.code.specs.Word.{systematicOf};
@@ -39,7 +39,7 @@ fn write_symbol(
     out: &mut [u8],
 ) -> u8
     requires { ⌜ Ready s (now rows) t × (due < 4294967296) × (i < kOf s) × (matrix ≡ systematicOf s)
-        × (length (now out) ≡ s .lanes) × (now reciprocals ≡ table 256 reciprocal) ⌝ }
+        × (length (now out) ≡ s .lanes) × Reciprocals (now reciprocals) ⌝ }
     ensures { λ r. ⌜ Told s (now (rows .entry)) due t i r (now (out .exit)) ⌝ }
 {
     let mut places = [0usize; 16];

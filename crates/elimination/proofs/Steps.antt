@@ -8,10 +8,10 @@ use native.Mathlib.Omega.{arith}
 use lib.Dec.{eqb, ltb}
 use lib.ListN.{getD}
 use borrow.Author.Tests.{eq-eqb, ne-eqb, eqb-true, eqb-false, lt-ltb}
-use Rattle.galois.specs.Byte.{_⊕_, _⊗_, reciprocal, quotient}
+use Rattle.galois.specs.Byte.{_⊕_, _⊗_, quotient}
 use Rattle.galois.proofs.Xor.{plus-below, plus-self, plus-zero}
 use Rattle.galois.proofs.ByteProduct.{times-below, times-comm, times-zero, one-times}
-use Rattle.galois.proofs.ByteField.{times-reciprocal}
+use Rattle.galois.proofs.ByteField.{quotient-times, times-quotient}
 use Rattle.galois.specs.Table.{table}
 use Rattle.galois.proofs.ByIndex.{getD-table}
 use Rattle.elimination.specs.Elimination.{cell, scaledAt, cleared}
@@ -42,12 +42,12 @@ module _ (k : ℕ) (hk : k ≤ 16) where
 
   -- row r divided by its entry at p
   pub cleared-pivot : (m : List (List ℕ)) (r p j : ℕ) → r < k → j < 16
-      → cell (cleared k m r p) r j ≡ reciprocal (cell m r p) ⊗ cell m r j
-  unfolding scaledAt quotient
+      → cell (cleared k m r p) r j ≡ quotient 1 (cell m r p) ⊗ cell m r j
+  unfolding scaledAt
   cleared-pivot m r p j hr hj =
       cell-cleared m r p r j hr hj
       ∙ ap (λ (b : Bool). cond b (scaledAt m r p j) (cell m r j ⊕ cell m r p ⊗ scaledAt m r p j)) (eq-eqb r r refl)
-      ∙ times-comm (cell m r j) (reciprocal (cell m r p))
+      ∙ quotient-times (cell m r j) (cell m r p) ∙ times-comm (cell m r j) (quotient 1 (cell m r p))
 
   -- any other row, with its entry at p times the new row r added
   pub cleared-other : (m : List (List ℕ)) (r p q j : ℕ) → r < k → q < k → j < 16 → q ≢ r
@@ -63,7 +63,7 @@ module _ (k : ℕ) (hk : k ≤ 16) where
   pub cleared-below : (m : List (List ℕ)) (r p q j : ℕ) → r < k → q < k → j < 16 → cell m q j < 256
       → cell (cleared k m r p) q j < 256
   cleared-below m r p q j hr hq hj hb =
-      ⊎-elim (λ same. rw same (rw (cleared-pivot m r p j hr hj) (times-below (reciprocal (cell m r p)) (cell m r j))))
+      ⊎-elim (λ same. rw same (rw (cleared-pivot m r p j hr hj) (times-below (quotient 1 (cell m r p)) (cell m r j))))
       (λ ne. rw (cleared-other m r p q j hr hq hj ne)
       (plus-below 8 (cell m q j) (cell m q p ⊗ cell (cleared k m r p) r j) hb
       (times-below (cell m q p) (cell (cleared k m r p) r j))))
@@ -74,7 +74,7 @@ module _ (k : ℕ) (hk : k ≤ 16) where
       → cell (cleared k m r p) q j ≡ cell m q j
   cleared-kept m r p q j hr hq hj e =
       let pivot : cell (cleared k m r p) r j ≡ 0 =
-      cleared-pivot m r p j hr hj ∙ ap (λ (z : ℕ). reciprocal (cell m r p) ⊗ z) e ∙ times-zero (reciprocal (cell m r p)) in
+      cleared-pivot m r p j hr hj ∙ ap (λ (z : ℕ). quotient 1 (cell m r p) ⊗ z) e ∙ times-zero (quotient 1 (cell m r p)) in
       ⊎-elim (λ same. rw same (pivot ∙ sym e))
       (λ ne. cleared-other m r p q j hr hq hj ne
       ∙ ap (λ (z : ℕ). cell m q j ⊕ z) (ap (λ (z : ℕ). cell m q p ⊗ z) pivot ∙ times-zero (cell m q p))
@@ -85,7 +85,7 @@ module _ (k : ℕ) (hk : k ≤ 16) where
   pub cleared-one : (m : List (List ℕ)) (r p : ℕ) → r < k → p < 16 → cell m r p < 256 → cell m r p ≢ 0
       → cell (cleared k m r p) r p ≡ 1
   cleared-one m r p hr hp hb ne =
-      cleared-pivot m r p p hr hp ∙ times-comm (reciprocal (cell m r p)) (cell m r p) ∙ times-reciprocal (cell m r p) hb ne
+      cleared-pivot m r p p hr hp ∙ times-comm (quotient 1 (cell m r p)) (cell m r p) ∙ times-quotient (cell m r p) hb ne
 
   -- and every other row is 0
   pub cleared-zero : (m : List (List ℕ)) (r p q : ℕ) → r < k → q < k → p < 16 → cell m r p < 256 → cell m r p ≢ 0
@@ -100,8 +100,8 @@ module _ (k : ℕ) (hk : k ≤ 16) where
   pub cleared-spans : (m : List (List ℕ)) (r p : ℕ) → r < k → p < 16 → cell m r p ≢ 0
       → ((q j : ℕ) → q < k → j < 16 → cell m q j < 256) → Spans k 16 (cell (cleared k m r p)) (cell m)
   cleared-spans m r p hr hp nz bytes =
-      spans-step k 16 (cell (cleared k m r p)) (cell m) r (reciprocal (cell m r p)) (cell m r p) (λ q. cell m q p) hr
-      (times-reciprocal (cell m r p) (bytes r p hr hp) nz) bytes
+      spans-step k 16 (cell (cleared k m r p)) (cell m) r (quotient 1 (cell m r p)) (cell m r p) (λ q. cell m q p) hr
+      (times-quotient (cell m r p) (bytes r p hr hp) nz) bytes
       (λ q j hq hj. cleared-below m r p q j hr hq hj (bytes q j hq hj))
       (λ j hj. cleared-pivot m r p j hr hj)
       (λ q j hq ne hj. cleared-other m r p q j hr hq hj ne)

@@ -1,6 +1,6 @@
 -- The bytes are a field: every byte but 0 has its reciprocal, and the rule of a table of reciprocals.
 use mathlib.Core.Path.{_≡_, refl, sym, ap, _∙_, subst, subst⁻¹}
-use mathlib.Core.Bool.{Bool, true, false, cond, _&&_}
+use mathlib.Core.Bool.{Bool, true, false, _&&_}
 use mathlib.Core.List.{List, [], _∷_}
 use mathlib.Core.Logic.{_≢_, ⊎-elim}
 use Prim.Native.Nat.{ℕ, zero, suc, _+_, _<_, _≤_, zero-le}
@@ -9,12 +9,10 @@ use native.Mathlib.Omega.{arith}
 use lib.Arith.{digits-lt}
 use lib.Dec.{T, eqb, ltb, eqb→eq, ltb→lt, lit<, lit≤}
 use lib.ListN.{length, getD}
-use Rattle.galois.specs.Bounded.{every}
-use Rattle.galois.specs.Byte.{_⊕_, _⊗_, high, low, byte, eight, first, reciprocal}
-use Rattle.galois.specs.Narrow.{narrow, _⊞_, timesZ, timesBits, _⊠_, narrowReciprocals, narrowReciprocal}
-use Rattle.galois.specs.Table.{table}
-use Rattle.galois.proofs.ByIndex.{getD-table, is-table}
-use Rattle.galois.proofs.Cases.{and-left, and-right, equal-but-zero, where-passed}
+use Rattle.galois.specs.Byte.{_⊕_, _⊗_, high, low, byte, eight, first, reciprocal, quotient, Reciprocals}
+use Rattle.galois.specs.Narrow.{_⊞_, _⊠_, narrowQuotient}
+use Rattle.galois.proofs.Arithmetic.{arithmetic}
+use Rattle.galois.proofs.Cases.{and-left, and-right, equal-but-zero}
 use Rattle.galois.proofs.Field.{Field, reciprocal-unique}
 use Rattle.galois.proofs.ByteProduct.{times-below, times-comm, times-assoc, zero-times, one-times, distributes, high-below, low-below, high-low, low-low, eight-high}
 use Rattle.galois.proofs.NarrowField.{narrows}
@@ -46,7 +44,7 @@ found-below f b a zero hb h = hb
 found-below f b a (suc m) hb h =
     either-below a (first f (suc a) m) b (f a) (omega arith) (found-below f b (suc a) m hb (omega arith))
 
-pub reciprocal-below : (x : ℕ) → reciprocal x < 256
+reciprocal-below : (x : ℕ) → reciprocal x < 256
 unfolding reciprocal
 reciprocal-below x = found-below (λ y. eqb (x ⊗ y) 1) 256 0 256 (lit< tt) (lit≤ tt)
 
@@ -56,10 +54,10 @@ norm : ℕ → ℕ
 norm x = eight ⊠ (high x ⊠ high x) ⊞ high x ⊠ low x ⊞ low x ⊠ low x
 
 inverse : ℕ → ℕ
-inverse x = byte (high x ⊠ narrowReciprocal (norm x)) ((high x ⊞ low x) ⊠ narrowReciprocal (norm x))
+inverse x = byte (narrowQuotient (high x) (norm x)) (narrowQuotient (high x ⊞ low x) (norm x))
 
 inverse-times : (x : ℕ) → x < 256 → x ≢ 0 → x ⊗ inverse x ≡ 1
-unfolding every _⊗_ _⊞_ _⊠_ narrow timesBits timesZ high low byte eight inverse norm narrowReciprocal narrowReciprocals
+unfolding arithmetic inverse norm
 inverse-times = equal-but-zero 255 (λ x. x ⊗ inverse x) (λ x. 1) tt
 
 norm-below : (x : ℕ) → norm x < 16
@@ -71,12 +69,11 @@ norm-below x =
 inverse-below : (x : ℕ) → inverse x < 256
 unfolding inverse byte
 inverse-below x =
-    let r : ℕ = narrowReciprocal (norm x) in
-    let hr : r < 16 = narrows .reciprocal-below (norm x) (norm-below x) in
-    digits-lt (narrows .times-below (high x) r (high-below x) hr)
-    (narrows .times-below (high x ⊞ low x) r (narrows .plus-below (high x) (low x) (high-below x) (low-below x)) hr)
+    digits-lt (narrows .quotient-below (high x) (norm x) (high-below x) (norm-below x))
+    (narrows .quotient-below (high x ⊞ low x) (norm x)
+    (narrows .plus-below (high x) (low x) (high-below x) (low-below x)) (norm-below x))
 
-pub times-reciprocal : (x : ℕ) → x < 256 → x ≢ 0 → x ⊗ reciprocal x ≡ 1
+times-reciprocal : (x : ℕ) → x < 256 → x ≢ 0 → x ⊗ reciprocal x ≡ 1
 unfolding reciprocal
 times-reciprocal x h ne =
     eqb→eq (x ⊗ reciprocal x) 1
@@ -90,11 +87,32 @@ none-found f a zero never = refl
 none-found f a (suc m) never =
     ap (λ (t : Bool). elim t [ true ↦ a | false ↦ first f (suc a) m ]) (never a) ∙ none-found f (suc a) m never
 
-pub reciprocal-zero : reciprocal 0 ≡ 0
+reciprocal-zero : reciprocal 0 ≡ 0
 unfolding reciprocal
 reciprocal-zero = none-found (λ y. eqb (0 ⊗ y) 1) 0 256 (λ y. ap (λ (p : ℕ). eqb p 1) (zero-times y))
 
-pub bytes : Field 256 _⊕_ _⊗_ reciprocal
+-- ---- the quotient
+
+-- 1 divided by a byte is its reciprocal
+pub one-quotient : (y : ℕ) → quotient 1 y ≡ reciprocal y
+unfolding quotient
+one-quotient y = one-times (reciprocal y) (reciprocal-below y)
+
+-- it is a byte
+pub quotient-below : (x y : ℕ) → quotient x y < 256
+unfolding quotient
+quotient-below x y = times-below x (reciprocal y)
+
+-- to divide is to multiply by 1 divided
+pub quotient-times : (x y : ℕ) → quotient x y ≡ x ⊗ quotient 1 y
+unfolding quotient
+quotient-times x y = ap (λ (r : ℕ). x ⊗ r) (sym (one-quotient y))
+
+-- which brings a byte that is not 0 to 1
+pub times-quotient : (x : ℕ) → x < 256 → x ≢ 0 → x ⊗ quotient 1 x ≡ 1
+times-quotient x h ne = ap (λ (r : ℕ). x ⊗ r) (one-quotient x) ∙ times-reciprocal x h ne
+
+pub bytes : Field 256 _⊕_ _⊗_ quotient
 bytes = record {
   one-below = lit< tt;
   plus-below = plus-below 8;
@@ -108,8 +126,9 @@ bytes = record {
   zero-times = λ x _. zero-times x;
   one-times = one-times;
   distributes = λ x y z _ _ _. distributes x y z;
-  reciprocal-below = λ x _. reciprocal-below x;
-  times-reciprocal = times-reciprocal;
+  quotient-below = λ x y _ _. quotient-below x y;
+  quotient-times = λ x y _ _. quotient-times x y;
+  times-quotient = times-quotient;
 }
 
 -- ---- a table of reciprocals
@@ -145,17 +164,17 @@ entry-inverts (y ∷ rest) x zero z rule h e =
 entry-inverts (y ∷ rest) x (suc i) z rule h e =
     entry-inverts rest (suc x) i z (and-right (inverts x y) (invertsFrom (suc x) rest) rule) (le-of-suc-le-suc h) (omega arith)
 
--- a list that passes that one test is the table of the reciprocals
-pub reciprocals-listed : (t : List ℕ) → T (reciprocalTable t) → t ≡ table 256 reciprocal
-unfolding reciprocalTable
-reciprocals-listed t rule =
+-- a list that passes that one test is a table of reciprocals
+pub reciprocals-listed : (t : List ℕ) → T (reciprocalTable t) → Reciprocals t
+unfolding reciprocalTable Reciprocals
+reciprocals-listed t rule x h =
     let all : length t ≡ 256 = eqb→eq (length t) 256 (and-left (eqb (length t) 256) (invertsFrom 0 t) rule) in
-    is-table 256 reciprocal 0 t all
-    (λ x h. entry-reciprocal x (getD t x 0) h
-    (entry-inverts t 0 x x (and-right (eqb (length t) 256) (invertsFrom 0 t) rule) (omega arith) (omega arith)))
+    entry-reciprocal x (getD t x 0) h
+    (entry-inverts t 0 x x (and-right (eqb (length t) 256) (invertsFrom 0 t) rule) (omega arith) (omega arith))
+    ∙ sym (one-quotient x)
 
--- the rule of the table: where the test passes, an entry is the reciprocal
-pub table-reciprocal : (x : ℕ) → x < 256 → (t : List ℕ) → getD t x 0 ≡ cond (reciprocalTable t) (reciprocal x) (getD t x 0)
-table-reciprocal x h t =
-    where-passed (reciprocalTable t) (getD t x 0) (reciprocal x)
-    (λ rule. ap (λ (l : List ℕ). getD l x 0) (reciprocals-listed t rule) ∙ getD-table 256 reciprocal x 0 h)
+-- its entry at y times a number is the number divided by y
+pub entry-divides : (t : List ℕ) → Reciprocals t → (x y : ℕ) → y < 256 → getD t y 0 ⊗ x ≡ quotient x y
+unfolding Reciprocals
+entry-divides t table x y h =
+    ap (λ (r : ℕ). r ⊗ x) (table y h) ∙ times-comm (quotient 1 y) x ∙ sym (quotient-times x y)

@@ -2,18 +2,19 @@
 -- powers of two. All but `one-times` hold of any number, which counts as its remainder by 256.
 use mathlib.Core.Path.{_≡_, refl, sym, ap, ap₂, _∙_, subst, subst⁻¹}
 use mathlib.Core.Logic.{⊎-elim}
-use Prim.Native.Nat.{ℕ, zero, suc, _+_, _-_, _*_, _/_, _%_, _^_, _<_}
+use Prim.Native.Nat.{ℕ, zero, suc, _+_, _-_, _/_, _%_, _^_, _<_}
 use native.Mathlib.Nat.{mod-lt, zero-lt-suc}
 use native.Mathlib.Omega.{arith}
-use lib.Bits.{xor-shr, xor-mod, xor-block, xor-shifted}
+use lib.Bits.{xor-shr, xor-mod, xor-block}
 use lib.Arith.{digits-lt}
 use lib.Dec.{lit<, ltb, ltb→lt}
+use Rattle.galois.specs.Narrow.{_⊞_, _⊠_}
+use Rattle.galois.specs.Byte.{_⊕_, _⊗_, high, low, byte, eight}
 use Rattle.galois.specs.Bounded.{every}
-use Rattle.galois.specs.Narrow.{narrow, _⊞_, timesZ, timesBits, _⊠_}
-use Rattle.galois.specs.Byte.{_⊕_, _⊗_, high, low, byte, alpha, eight, widen}
+use Rattle.galois.proofs.Arithmetic.{arithmetic}
 use Rattle.galois.proofs.Cases.{at, equal, equal₂, le-or-lt}
 use Rattle.galois.proofs.NarrowField.{narrows, narrow-plus}
-use Rattle.galois.proofs.Xor.{plus-comm, plus-below, zero-plus, Additive, additive-zero, additive-plus, additive-after, additive-equal}
+use Rattle.galois.proofs.Xor.{plus-comm, plus-below, Additive, additive-zero, additive-plus, additive-after, additive-equal}
 
 -- ---- the halves of a byte
 
@@ -49,7 +50,7 @@ multiple-additive a ha f below add x y =
     ∙ narrows .distributes a (f x) (f y) ha (below x) (below y)
     ∙ narrow-plus (a ⊠ f x) (a ⊠ f y) (narrow-times a (f x) ha (below x)) (narrow-times a (f y) ha (below y))
 
-eight-below : eight < 16
+pub eight-below : eight < 16
 unfolding eight
 eight-below = lit< tt
 
@@ -148,14 +149,14 @@ pub zero-times : (x : ℕ) → 0 ⊗ x ≡ 0
 zero-times x = additive-zero (λ y. y ⊗ x) (distributes-left x)
 
 pub one-times : (x : ℕ) → x < 256 → 1 ⊗ x ≡ x
-unfolding every _⊗_ _⊞_ _⊠_ narrow timesBits timesZ high low byte eight
+unfolding arithmetic
 one-times = additive-equal (λ x. 1 ⊗ x) (λ x. x) (distributes 1) (λ x y. refl) 8 (equal 8 (λ i. 1 ⊗ 2 ^ i) (λ i. 2 ^ i) tt)
 
-high-remainder : (x : ℕ) → high x ≡ high (x % 256)
+pub high-remainder : (x : ℕ) → high x ≡ high (x % 256)
 unfolding high
 high-remainder x = omega arith
 
-low-remainder : (x : ℕ) → low x ≡ low (x % 256)
+pub low-remainder : (x : ℕ) → low x ≡ low (x % 256)
 unfolding low
 low-remainder x = omega arith
 
@@ -201,15 +202,15 @@ associates-one : Associates 1
 associates-one y z hy hz = ap (λ (p : ℕ). p ⊗ z) (one-times y hy) ∙ sym (one-times (y ⊗ z) (times-below y z))
 
 associates-z : Associates 2
-unfolding every _⊗_ _⊞_ _⊠_ narrow timesBits timesZ high low byte eight
+unfolding arithmetic
 associates-z = assoc-second 2 (equal₂ 8 (λ j k. (2 ⊗ 2 ^ j) ⊗ 2 ^ k) (λ j k. 2 ⊗ (2 ^ j ⊗ 2 ^ k)) tt)
 
 associates-alpha : Associates 16
-unfolding every _⊗_ _⊞_ _⊠_ narrow timesBits timesZ high low byte eight
+unfolding arithmetic
 associates-alpha = assoc-second 16 (equal₂ 8 (λ j k. (16 ⊗ 2 ^ j) ⊗ 2 ^ k) (λ j k. 16 ⊗ (2 ^ j ⊗ 2 ^ k)) tt)
 
 associates-narrow : (i : ℕ) → i < 4 → Associates (2 ^ i)
-unfolding _⊗_ _⊞_ _⊠_ narrow timesBits timesZ high low byte eight
+unfolding arithmetic
 associates-narrow zero h = associates-one
 associates-narrow (suc zero) h = associates-z
 associates-narrow (suc (suc zero)) h = associates-times 2 2 (lit< tt) associates-z associates-z
@@ -218,7 +219,7 @@ associates-narrow (suc (suc (suc zero))) h =
 associates-narrow (suc (suc (suc (suc i)))) h = omega arith
 
 alpha-power : (i : ℕ) → i < 4 → 16 ⊗ 2 ^ i ≡ 2 ^ (i + 4)
-unfolding every _⊗_ _⊞_ _⊠_ narrow timesBits timesZ high low byte eight
+unfolding arithmetic
 alpha-power = equal 4 (λ i. 16 ⊗ 2 ^ i) (λ i. 2 ^ (i + 4)) tt
 
 power-below : (i : ℕ) → i < 4 → 2 ^ i < 256

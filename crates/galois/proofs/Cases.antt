@@ -1,6 +1,6 @@
 -- From a test that antt computes over all numbers below a bound to the law at each of them.
 use mathlib.Core.Path.{_≡_, refl, subst, subst⁻¹}
-use mathlib.Core.Bool.{Bool, true, false, cond, _&&_, _||_}
+use mathlib.Core.Bool.{Bool, true, false, _&&_, _||_}
 use mathlib.Core.Logic.{_≢_, _⊎_, inl, inr, ⊎-elim}
 use Prim.Native.Nat.{ℕ, zero, suc, _≤_, _<_}
 use native.Mathlib.Nat.{not-suc-le-zero, le-of-suc-le-suc, eq-or-lt-of-le, le-step, lt-suc-self}
@@ -110,11 +110,6 @@ pub equal-but-zero : (m : ℕ) (f g : ℕ → ℕ) → T (every m (λ a. eqb (f 
     → (a : ℕ) → a < suc m → a ≢ 0 → f a ≡ g a
 equal-but-zero m f g t zero h ne = absurd (ne refl)
 equal-but-zero m f g t (suc a) h ne = equal m (λ a. f (suc a)) (λ a. g (suc a)) t a (le-of-suc-le-suc h)
-
--- what holds where a test passes, as an equation that computes once the test does
-pub where-passed : (p : Bool) (x y : ℕ) → (T p → x ≡ y) → x ≡ cond p y x
-where-passed true x y h = h tt
-where-passed false x y h = refl
 
 -- of two numbers, the first is at most the second, or above it
 pub le-or-lt : (m n : ℕ) → (m ≤ n) ⊎ (n < m)

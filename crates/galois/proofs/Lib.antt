@@ -1,4 +1,5 @@
 -- The laws that the crates above cite.
+pub mod Arithmetic
 pub mod Cases
 pub mod Xor
 pub mod Field

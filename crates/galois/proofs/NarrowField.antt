@@ -1,17 +1,17 @@
 -- The narrow numbers are a field. The product is additive, so that its laws are computed at powers of two.
 use mathlib.Core.Path.{_≡_, refl, sym, ap, ap₂, _∙_, subst⁻¹}
-use mathlib.Core.Bool.{Bool, cond, not, and-false}
+use mathlib.Core.Bool.{cond, not, and-false}
 use mathlib.Core.Logic.{_≢_}
 use Prim.Native.Nat.{ℕ, zero, suc, _*_, _/_, _%_, _^_, _<_}
 use native.Mathlib.Nat.{mod-lt, zero-lt-suc}
 use native.Mathlib.Omega.{arith}
 use lib.Bits.{bitXor, xor-shr, xor-mod}
-use lib.Dec.{T, T-not, eqb, ltb, eqb→eq, ltb→lt, lit<}
-use lib.ListN.{getD, List·getD-eq-default}
+use lib.Dec.{T, T-not, eqb, ltb, ltb→lt, lit<}
+use lib.ListN.{List·getD-eq-default}
 use borrow.Author.Tests.{lt-ltb, le-ltb}
 use Rattle.galois.specs.Bounded.{every}
 use Rattle.galois.specs.Byte.{_⊕_, eight}
-use Rattle.galois.specs.Narrow.{narrow, _⊞_, timesZ, timesBits, _⊠_, narrowReciprocals, narrowReciprocal}
+use Rattle.galois.specs.Narrow.{narrow, _⊞_, timesZ, timesBits, _⊠_, narrowReciprocals, narrowReciprocal, narrowQuotient}
 use Rattle.galois.proofs.Cases.{at, equal, equal₂, equal-but-zero}
 use Rattle.galois.proofs.Field.{Field}
 use Rattle.galois.proofs.Xor.{plus-below, plus-comm, plus-assoc, plus-self, zero-plus, plus-zero, plus-exchange, Additive, additive-after, additive-equal}
@@ -142,8 +142,18 @@ product-distributes a b c ha hb hc =
     ∙ sym (ap₂ _⊕_ (times-raw a b ha hb) (times-raw a c ha hc))
     ∙ sym (narrow-plus (a ⊠ b) (a ⊠ c) (product-below a b ha hb) (product-below a c ha hc))
 
-pub narrows : Field 16 _⊞_ _⊠_ narrowReciprocal
-unfolding every _⊠_ narrow timesBits timesZ narrowReciprocal narrowReciprocals
+-- ---- the quotient
+
+product-one : (a : ℕ) → a < 16 → 1 ⊠ a ≡ a
+unfolding every _⊠_ narrow timesBits timesZ
+product-one = equal 16 (λ a. 1 ⊠ a) (λ a. a) tt
+
+reciprocal-below : (a : ℕ) → a < 16 → narrowReciprocal a < 16
+unfolding every narrowReciprocal narrowReciprocals
+reciprocal-below a ha = ltb→lt (narrowReciprocal a) 16 (at 16 (λ a. ltb (narrowReciprocal a) 16) tt a ha)
+
+pub narrows : Field 16 _⊞_ _⊠_ narrowQuotient
+unfolding every _⊠_ narrow timesBits timesZ narrowQuotient narrowReciprocal narrowReciprocals
 narrows = record {
   one-below = lit< tt;
   plus-below = sum-below;
@@ -155,10 +165,11 @@ narrows = record {
   times-comm = λ a b ha hb. times-raw a b ha hb ∙ raw-comm a b ha hb ∙ sym (times-raw b a hb ha);
   times-assoc = product-assoc;
   zero-times = equal 16 (λ a. 0 ⊠ a) (λ a. 0) tt;
-  one-times = equal 16 (λ a. 1 ⊠ a) (λ a. a) tt;
+  one-times = product-one;
   distributes = product-distributes;
-  reciprocal-below = λ a ha. ltb→lt (narrowReciprocal a) 16 (at 16 (λ a. ltb (narrowReciprocal a) 16) tt a ha);
-  times-reciprocal = equal-but-zero 15 (λ a. a ⊠ narrowReciprocal a) (λ a. 1) tt;
+  quotient-below = λ a b ha hb. product-below a (narrowReciprocal b) ha (reciprocal-below b hb);
+  quotient-times = λ a b ha hb. ap (λ (c : ℕ). a ⊠ c) (sym (product-one (narrowReciprocal b) (reciprocal-below b hb)));
+  times-quotient = equal-but-zero 15 (λ a. a ⊠ narrowQuotient 1 a) (λ a. 1) tt;
 }
 
 -- x × x + x + 8 is never 0

@@ -1,8 +1,11 @@
 -- Document 01, "Two fields": a byte 16h + l means hα + l, with narrow h and l, and α × α = α + 8.
+use mathlib.Core.Path.{_≡_}
 use mathlib.Core.Bool.{Bool, true, false, cond}
-use Prim.Native.Nat.{ℕ, zero, suc, _+_, _*_, _/_, _%_}
+use mathlib.Core.List.{List}
+use Prim.Native.Nat.{ℕ, zero, suc, _+_, _*_, _/_, _%_, _<_}
 use lib.Dec.{eqb, ltb}
 use lib.Bits.{bitXor}
+use lib.ListN.{getD}
 use Rattle.galois.specs.Narrow.{_⊞_, _⊠_}
 
 infixl 60 _⊕_
@@ -47,6 +50,10 @@ reciprocal x = first (λ y. eqb (x ⊗ y) 1) 0 256
 -- x divided by y: 0 where y has no reciprocal
 unfoldable pub quotient : ℕ → ℕ → ℕ
 quotient x y = x ⊗ reciprocal y
+
+-- a table of reciprocals: its entry y is 1 divided by y
+unfoldable pub Reciprocals : List ℕ → Type 0
+Reciprocals t = (y : ℕ) → y < 256 → getD t y 0 ≡ quotient 1 y
 
 -- a narrow number as a byte
 unfoldable pub widen : ℕ → ℕ

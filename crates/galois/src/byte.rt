@@ -2,8 +2,7 @@
 use crate::narrow::Gf16;
 use crate::tables::RECIPROCALS;
 ghost use mathlib.Core.Path.{_≡_};
-ghost use Rattle.galois.specs.Byte.{_⊕_, _⊗_, alpha, reciprocal, quotient, high, low, byte, widen};
-ghost use Rattle.galois.specs.Table.{table};
+ghost use Rattle.galois.specs.Byte.{_⊕_, _⊗_, alpha, reciprocal, quotient, Reciprocals, high, low, byte, widen};
 
 // A byte.
 pub struct Gf256(pub u8);
@@ -48,7 +47,8 @@ impl Gf256 {
     pub fn reciprocal(self) -> Gf256
         ensures { λ r. ⌜ r .0 ≡ reciprocal (self .0) ⌝ }
     {
-        Gf256(RECIPROCALS[self.0 as usize])
+        let table = reciprocals();
+        Gf256(table[self.0 as usize])
     }
 
     pub fn quotient(self, other: Gf256) -> Gf256
@@ -79,7 +79,7 @@ impl Gf256 {
 
 // The reciprocal of every byte.
 pub fn reciprocals() -> [u8; 256]
-    ensures { λ r. ⌜ r ≡ table 256 reciprocal ⌝ }
+    ensures { λ r. ⌜ Reciprocals r ⌝ }
 {
     RECIPROCALS
 }

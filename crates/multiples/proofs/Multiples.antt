@@ -11,10 +11,9 @@ use lib.Dec.{eqb}
 use lib.ListN.{length, getD, set, length-set, List·getD-eq-default}
 use lib.Seq.{getD-set-same, getD-set-other}
 use borrow.Author.Tests.{eqb-true, eqb-false}
-use Rattle.galois.specs.Bounded.{every}
-use Rattle.galois.specs.Byte.{_⊕_, _⊗_, high, low, byte, eight}
-use Rattle.galois.specs.Narrow.{narrow, _⊞_, timesZ, timesBits, _⊠_}
+use Rattle.galois.specs.Byte.{_⊕_, _⊗_}
 use Rattle.galois.specs.Table.{table}
+use Rattle.galois.proofs.Arithmetic.{arithmetic}
 use Rattle.galois.proofs.ByIndex.{is-table, getD-table, length-table}
 use Rattle.galois.proofs.ByteProduct.{distributes-left, times-assoc, zero-times}
 use Rattle.galois.proofs.Cases.{equal, le-or-lt}
@@ -25,12 +24,12 @@ use Rattle.multiples.proofs.Digits.{weight}
 
 -- z times a byte is its double where no half of it leaves its four bits: a byte below 8
 pub twice-low : (w : ℕ) → w < 8 → 2 ⊗ w ≡ w * 2
-unfolding every _⊗_ _⊞_ _⊠_ narrow timesBits timesZ high low byte eight
+unfolding arithmetic
 twice-low = equal 8 (λ w. 2 ⊗ w) (λ w. w * 2) tt
 
 -- and 16 times one
 pub twice-high : (w : ℕ) → w < 8 → 2 ⊗ (w * 16) ≡ w * 32
-unfolding every _⊗_ _⊞_ _⊠_ narrow timesBits timesZ high low byte eight
+unfolding arithmetic
 twice-high = equal 8 (λ w. 2 ⊗ (w * 16)) (λ w. w * 32) tt
 
 -- z times the multiple by w is the multiple by z times w

@@ -6,11 +6,11 @@ use Prim.Native.Nat.{ℕ, _<_}
 use borrow.Author.Tests.{le-ltb}
 use lib.Dec.{eqb}
 use lib.ListN.{length, getD}
-use Rattle.galois.specs.Byte.{_⊕_, _⊗_, high, low, byte, eight, first, reciprocal, quotient}
-use Rattle.galois.specs.Narrow.{narrow, _⊞_, timesZ, timesBits, _⊠_}
+use Rattle.galois.specs.Byte.{_⊕_, _⊗_, quotient, Reciprocals}
 use Rattle.galois.specs.Table.{table}
 use Rattle.galois.proofs.ByIndex.{getD-table, is-table, table-equal}
-use Rattle.galois.proofs.ByteProduct.{times-comm, one-times}
+use Rattle.galois.proofs.ByteField.{bytes, entry-divides}
+use Rattle.galois.proofs.Field.{quotient-one}
 use Rattle.elimination.specs.Elimination.{Reduced, cell, scaledAt, pivotFrom, pivoted, columnStep}
 
 -- row q once row r is the pivot of position p
@@ -36,27 +36,19 @@ row-own m r p q e = rw e refl
 pub row-other : (m : List (List ℕ)) (r p q : ℕ) → eqb q r ≡ false → sweptRow m r p q ≡ clearedRow m r p q
 row-other m r p q e = rw e refl
 
--- a row by the reciprocal of a byte is the row divided by it
-pub row-divided : (row : List ℕ) (y : ℕ) → table 16 (λ j. reciprocal y ⊗ getD row j 0) ≡ table 16 (λ j. quotient (getD row j 0) y)
-unfolding quotient
-row-divided row y =
-    table-equal 16 (λ j. reciprocal y ⊗ getD row j 0) (λ j. getD row j 0 ⊗ reciprocal y)
-    (λ j h. times-comm (reciprocal y) (getD row j 0))
-
-one-by-one : reciprocal 1 ≡ 1
-unfolding reciprocal first _⊗_ _⊞_ _⊠_ narrow timesBits timesZ high low byte eight
-one-by-one = refl
+-- a row by the entry of a byte in a table of reciprocals is the row divided by the byte
+pub row-divided : (t : List ℕ) → Reciprocals t → (row : List ℕ) (y : ℕ) → y < 256
+    → table 16 (λ j. getD t y 0 ⊗ getD row j 0) ≡ table 16 (λ j. quotient (getD row j 0) y)
+row-divided t divides row y h =
+    table-equal 16 (λ j. getD t y 0 ⊗ getD row j 0) (λ j. quotient (getD row j 0) y)
+    (λ j _. entry-divides t divides (getD row j 0) y h)
 
 -- a row of bytes divided by 1 stays as it is
 pub row-by-one : (row : List ℕ) (y : ℕ) → length row ≡ 16 → ((j : ℕ) → getD row j 0 < 256) → y ≡ 1
     → row ≡ table 16 (λ j. quotient (getD row j 0) y)
-unfolding quotient
 row-by-one row y n below e =
-    is-table 16 (λ j. getD row j 0 ⊗ reciprocal y) 0 row n
-    (λ j h.
-    sym
-    (ap (λ (z : ℕ). getD row j 0 ⊗ z) (ap reciprocal e ∙ one-by-one) ∙ times-comm (getD row j 0) 1
-    ∙ one-times (getD row j 0) (below j)))
+    is-table 16 (λ j. quotient (getD row j 0) y) 0 row n
+    (λ j h. sym (ap (quotient (getD row j 0)) e ∙ quotient-one bytes (getD row j 0) (below j)))
 
 -- ---- one position
 

@@ -8,7 +8,7 @@ ghost use mathlib.Core.Path.{_≡_};
 ghost use Prim.Native.Nat.{_≤_, _<_};
 ghost use lib.Dec.{eqb};
 ghost use lib.ListN.{length, getD};
-ghost use Rattle.galois.specs.Byte.{quotient, reciprocal};
+ghost use Rattle.galois.specs.Byte.{quotient, Reciprocals};
 ghost use Rattle.galois.specs.Table.{table};
 ghost use Rattle.elimination.specs.Elimination.{pivotFrom, cleared, columnStep, reducedFrom, leftFlag, leftFrom};
 
@@ -31,7 +31,7 @@ fn pivot_row(rows: &[[u8; 16]], roles: &[u8; 16], p: usize, k: usize) -> usize
 
 // A row scaled to 1 at position p; one that is 1 there stays as it is.
 fn scaled(row: [u8; 16], p: usize, reciprocals: &[u8; 256]) -> [u8; 16]
-    requires { ⌜ (p < 16) × (now reciprocals ≡ table 256 reciprocal) ⌝ }
+    requires { ⌜ (p < 16) × Reciprocals (now reciprocals) ⌝ }
     ensures { λ r. ⌜ r ≡ table 16 (λ j. quotient (getD row j 0) (getD row p 0)) ⌝ }
 {
     if row[p] == 1 {
@@ -42,7 +42,7 @@ fn scaled(row: [u8; 16], p: usize, reciprocals: &[u8; 256]) -> [u8; 16]
 
 // Row r is scaled to 1 at position p, which is cleared from every other of the first k rows.
 fn clear_column(rows: &mut [[u8; 16]; 16], r: usize, p: usize, k: usize, reciprocals: &[u8; 256])
-    requires { ⌜ (r < k) × (p < 16) × (k ≤ 16) × (length (now rows) ≡ 16) × (now reciprocals ≡ table 256 reciprocal) ⌝ }
+    requires { ⌜ (r < k) × (p < 16) × (k ≤ 16) × (length (now rows) ≡ 16) × Reciprocals (now reciprocals) ⌝ }
     ensures { λ _. ⌜ now (rows .exit) ≡ cleared k (now (rows .entry)) r p ⌝ }
 {
     let pivot = scaled(rows[r], p, reciprocals);
@@ -64,7 +64,7 @@ fn column_step(
     k: usize,
     reciprocals: &[u8; 256],
 ) -> u8
-    requires { ⌜ (p < 16) × (k ≤ 16) × (length (now roles) ≡ 16) × (now reciprocals ≡ table 256 reciprocal) ⌝ }
+    requires { ⌜ (p < 16) × (k ≤ 16) × (length (now roles) ≡ 16) × Reciprocals (now reciprocals) ⌝ }
     ensures step { λ r. ⌜ record { rows = now (rows .exit); roles = now (roles .exit) }
         ≡ columnStep k (eqb flag 1) p (record { rows = now (rows .entry); roles = now (roles .entry) }) ⌝ }
     ensures left { λ r. ⌜ r ≡ leftFlag k (eqb flag 1) p (record { rows = now (rows .entry); roles = now (roles .entry) }) flag ⌝ }
@@ -90,7 +90,7 @@ pub fn eliminate(
     flags: &mut [u8; 16],
     roles: &mut [u8; 16],
 ) -> [[u8; 16]; 16]
-    requires { ⌜ (length (now roles) ≡ 16) × (now reciprocals ≡ table 256 reciprocal) ⌝ }
+    requires { ⌜ (length (now roles) ≡ 16) × Reciprocals (now reciprocals) ⌝ }
     ensures reduced { λ r. ⌜ record { rows = r; roles = now (roles .exit) }
         ≡ reducedFrom s (record { rows = matrix; roles = now (roles .entry) }) (now (flags .entry)) ⌝ }
     ensures left { λ _. ⌜ now (flags .exit)

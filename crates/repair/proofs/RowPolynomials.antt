@@ -1,5 +1,5 @@
 -- The rows of the spread form are polynomials: row i, at position j, is the value at j of a polynomial of k coefficients.
-use mathlib.Core.Path.{_≡_, refl, sym, ap, _∙_}
+use mathlib.Core.Path.{_≡_, refl, sym, ap, ap₂, _∙_}
 use mathlib.Core.List.{List, [], _∷_}
 use Prim.Native.Nat.{ℕ, zero, suc, _-_, _<_}
 use native.Mathlib.Nat.{le-step, lt-suc-self}
@@ -7,7 +7,7 @@ use native.Mathlib.Numerals.{add-one}
 use native.Mathlib.Omega.{arith}
 use lib.Dec.{lit<}
 use lib.ListN.{length}
-use Rattle.galois.specs.Narrow.{_⊞_, narrowReciprocal, narrowQuotient}
+use Rattle.galois.specs.Narrow.{_⊞_, narrowQuotient}
 use Rattle.galois.specs.Byte.{_⊕_, _⊗_, widen}
 use Rattle.galois.proofs.Xor.{plus-zero, zero-plus}
 use Rattle.galois.proofs.ByteProduct.{times-comm, times-assoc, times-zero}
@@ -17,7 +17,7 @@ use Rattle.code.specs.declared.settings.Settings.{Settings}
 use Rattle.code.specs.Settings.{delayOf, kOf}
 use Rattle.code.specs.Matrix.{point, factor, product, spread}
 use Rattle.code.proofs.Shape.{Shape}
-use Rattle.code.proofs.Rows.{times-narrow, point-le, product-narrow}
+use Rattle.code.proofs.Rows.{factor-once, factor-narrow, point-le, product-narrow}
 use Rattle.repair.specs.Polynomial.{value, Bytes}
 use Rattle.repair.proofs.Polynomials.{scale, value-scale, length-scale, bytes-scale, linear, value-linear, length-linear}
 
@@ -27,7 +27,7 @@ use Rattle.repair.proofs.Polynomials.{scale, value-scale, length-scale,
 unfoldable pub coefficients : ℕ → ℕ → ℕ → List ℕ
 coefficients N i zero = 1 ∷ []
 coefficients N i (suc m) =
-    scale (widen (narrowReciprocal (i ⊞ point N i m))) (linear (point N i m) 0 (coefficients N i m))
+    scale (narrowQuotient 1 (i ⊞ point N i m)) (linear (point N i m) 0 (coefficients N i m))
 
 -- one coefficient more than zero points
 pub length-coefficients : (N i m : ℕ) → length (coefficients N i m) ≡ suc m
@@ -43,18 +43,13 @@ unfolding coefficients
 bytes-coefficients N i zero = (lit< tt, tt)
 bytes-coefficients N i (suc m) = bytes-scale _ (linear (point N i m) 0 (coefficients N i m))
 
--- a factor, widened, is (j + p) times the reciprocal of (i + p)
-widen-factor : (i j p : ℕ) → i < 16 → j < 16 → p < 16 → widen (factor i j p) ≡ (j ⊕ p) ⊗ widen (narrowReciprocal (i ⊞ p))
-unfolding factor narrowQuotient
+-- a factor, widened, is (j + p) times 1 divided by (i + p)
+widen-factor : (i j p : ℕ) → i < 16 → j < 16 → p < 16 → widen (factor i j p) ≡ (j ⊕ p) ⊗ narrowQuotient 1 (i ⊞ p)
 widen-factor i j p hi hj hp =
     let jp : j ⊞ p < 16 = narrows .plus-below j p hj hp in
-    widen-times (j ⊞ p) (narrowReciprocal (i ⊞ p)) jp (narrows .reciprocal-below (i ⊞ p) (narrows .plus-below i p hi hp))
-    ∙ ap (λ (x : ℕ). x ⊗ widen (narrowReciprocal (i ⊞ p))) (widen-narrow (j ⊞ p) jp ∙ narrow-plus j p hj hp)
-
--- a factor is narrow
-factor-narrow : (i j p : ℕ) → factor i j p < 16
-unfolding factor narrowQuotient
-factor-narrow i j p = times-narrow (j ⊞ p) (narrowReciprocal (i ⊞ p))
+    let by : narrowQuotient 1 (i ⊞ p) < 16 = narrows .quotient-below 1 (i ⊞ p) (lit< tt) (narrows .plus-below i p hi hp) in
+    ap widen (sym (factor-once i j p)) ∙ widen-times (j ⊞ p) (narrowQuotient 1 (i ⊞ p)) jp by
+    ∙ ap₂ _⊗_ (widen-narrow (j ⊞ p) jp ∙ narrow-plus j p hj hp) (widen-narrow (narrowQuotient 1 (i ⊞ p)) by)
 
 -- c (x w) = w (x c)
 times-turn : (c x w : ℕ) → c ⊗ (x ⊗ w) ≡ w ⊗ (x ⊗ c)
@@ -69,7 +64,7 @@ value-coefficients N i j zero hi hj hp =
     ap (λ (t : ℕ). 1 ⊕ t) (times-zero j) ∙ plus-zero 1 ∙ sym (widen-narrow 1 (lit< tt))
 value-coefficients N i j (suc m) hi hj hp =
     let p : ℕ = point N i m in
-    let c : ℕ = widen (narrowReciprocal (i ⊞ p)) in
+    let c : ℕ = narrowQuotient 1 (i ⊞ p) in
     let w : ℕ = widen (product N i j m) in
     value-scale c (linear p 0 (coefficients N i m)) j
     ∙ ap (λ (t : ℕ). c ⊗ t)

@@ -1,12 +1,11 @@
 -- Each entry of the table is the reciprocal of its place, by one test over the whole table.
-use Rattle.galois.specs.Byte.{_⊗_, high, low, byte, eight}
-use Rattle.galois.specs.Narrow.{narrow, _⊞_, timesZ, timesBits, _⊠_}
+use Rattle.galois.proofs.Arithmetic.{arithmetic}
 use Rattle.galois.proofs.ByteField.{inverts, invertsFrom, reciprocalTable, reciprocals-listed}
 use Rattle.galois.proofs.byte.reciprocals.Statement.{statement}
 use Rattle.galois.proofs.byte.reciprocals.Tie as tie
 
 returns : tie.Need-returns
-unfolding reciprocalTable invertsFrom inverts _⊗_ _⊞_ _⊠_ narrow timesBits timesZ high low byte eight
+unfolding reciprocalTable invertsFrom inverts arithmetic
 returns c = reciprocals-listed _ tt
 
 pub reciprocals-spec : {M : Type 1} → statement M

@@ -1,14 +1,10 @@
--- Division by the entry at p is multiplication by its reciprocal, which stands in the table, and by 1 it changes nothing.
+-- Division by the entry at p is multiplication by its entry in the table, and by 1 it changes nothing.
 use borrow.Author.Needs.{needs}
-use mathlib.Core.Path.{_≡_, ap, _∙_}
-use mathlib.Core.List.{List}
+use mathlib.Core.Path.{_∙_}
 use Prim.Native.Nat.{ℕ, _<_}
 use denote.Ref.{now}
 use lib.ListN.{getD}
-use Rattle.galois.specs.Byte.{_⊗_, reciprocal}
-use Rattle.galois.specs.Table.{table}
 use Rattle.galois.proofs.ArrayBytes.{array-below}
-use Rattle.galois.proofs.ByIndex.{getD-table}
 use Rattle.reduction.proofs.Rewritten.{row-divided, row-by-one}
 use Rattle.reduction.proofs.columns.scaled.Statement.{statement}
 use Rattle.reduction.proofs.columns.scaled.Tie as tie
@@ -27,12 +23,8 @@ returns-2 : tie.Need-returns-2
 returns-2 c =
     let start = c .before .before .before in
     let a = start .args in
-    let y : ℕ = getD (a .t1) (a .p) 0 in
-    let entry : getD (now (a .reciprocals)) y 0 ≡ reciprocal y =
-    ap (λ (l : List ℕ). getD l y 0) (start .pre .1) ∙ getD-table 256 reciprocal y 0 (bytes start (a .p)) in
     c .row-times .ensures
-    ∙ ap (λ (y : ℕ). table 16 (λ j. y ⊗ getD (a .t1) j 0)) entry
-    ∙ row-divided (a .t1) y
+    ∙ row-divided (now (a .reciprocals)) (start .pre .1) (a .t1) (getD (a .t1) (a .p) 0) (bytes start (a .p))
 
 pub scaled-spec : {M : Type 1} → statement M
 scaled-spec =

@@ -5,15 +5,15 @@ use Prim.Native.Nat.{ℕ, _*_, _/_, _<_}
 use lib.Bits.{bitAnd}
 use lib.Dec.{T, ltb, ltb→lt}
 use Rattle.galois.specs.Bounded.{every}
-use Rattle.galois.specs.Byte.{_⊕_, _⊗_, high, low, byte, eight}
-use Rattle.galois.specs.Narrow.{narrow, _⊞_, timesZ, timesBits, _⊠_}
+use Rattle.galois.specs.Byte.{_⊕_, _⊗_}
+use Rattle.galois.proofs.Arithmetic.{arithmetic}
 use Rattle.galois.proofs.Cases.{at, equal}
 use Rattle.galois.proofs.byte.Gf256.times_z.Statement.{statement}
 use Rattle.galois.proofs.byte.Gf256.times_z.Tie as tie
 
 -- both halves shifted, and what leaves them brought back by z + 1
 shifted-halves : (x : ℕ) → x < 256 → bitAnd x 0x77 * 2 ⊕ bitAnd (x / 8) 0x11 * 3 ≡ 2 ⊗ x
-unfolding every _⊕_ _⊗_ _⊞_ _⊠_ narrow timesBits timesZ high low byte eight
+unfolding arithmetic
 shifted-halves = equal 256 (λ x. bitAnd x 0x77 * 2 ⊕ bitAnd (x / 8) 0x11 * 3) (λ x. 2 ⊗ x) tt
 
 -- a term that is a byte for every byte
