@@ -11,8 +11,8 @@ use borrow.Author.Tests.{eq-eqb, ne-eqb}
 use Rattle.galois.specs.Byte.{_⊕_, _⊗_}
 use Rattle.galois.specs.Sum.{sum}
 use Rattle.galois.proofs.Xor.{plus-below, plus-zero, zero-plus, plus-self, plus-cancel}
-use Rattle.galois.proofs.ByteProduct.{times-below, times-comm, times-assoc, times-zero, zero-times, one-times, distributes-left}
-use Rattle.galois.proofs.Sums.{sum-equal, sum-zeros, sum-single, sum-below, sum-plus, sum-split, multiple-of-sum}
+use Rattle.galois.proofs.ByteProduct.{times-below, times-comm, times-zero, zero-times, one-times}
+use Rattle.galois.proofs.Sums.{sum-zeros, sum-single, sum-below, sum-split, weights-plus, weights-times, weights-equal, weights-zeros}
 use Rattle.code.specs.declared.settings.Settings.{Settings}
 use Rattle.code.specs.Settings.{kOf}
 use Rattle.code.specs.Matrix.{entry}
@@ -52,32 +52,22 @@ module _ (s : Settings) where
   -- the word of a sum of multipliers is the sum of the words
   pub wordAt-plus : (u v : ℕ → ℕ) (p : ℕ) → wordAt s (λ r. u r ⊕ v r) p ≡ wordAt s u p ⊕ wordAt s v p
   unfolding wordAt
-  wordAt-plus u v p =
-      sum-equal (kOf s) (λ r. (u r ⊕ v r) ⊗ entry s r p) (λ r. u r ⊗ entry s r p ⊕ v r ⊗ entry s r p)
-      (λ r _. distributes-left (entry s r p) (u r) (v r))
-      ∙ sum-plus (kOf s) (λ r. u r ⊗ entry s r p) (λ r. v r ⊗ entry s r p)
+  wordAt-plus u v p = weights-plus (kOf s) (λ r. entry s r p) u v
 
   -- the word of a multiple of the multipliers is that multiple of the word
   pub wordAt-times : (c : ℕ) (u : ℕ → ℕ) (p : ℕ) → wordAt s (λ r. c ⊗ u r) p ≡ c ⊗ wordAt s u p
   unfolding wordAt
-  wordAt-times c u p =
-      sum-equal (kOf s) (λ r. (c ⊗ u r) ⊗ entry s r p) (λ r. c ⊗ (u r ⊗ entry s r p))
-      (λ r _. times-assoc c (u r) (entry s r p))
-      ∙ sym (multiple-of-sum c (kOf s) (λ r. u r ⊗ entry s r p))
+  wordAt-times c u p = weights-times (kOf s) (λ r. entry s r p) c u
 
   -- multipliers that are equal below k make equal words
   pub wordAt-equal : (u v : ℕ → ℕ) → ((r : ℕ) → r < kOf s → u r ≡ v r) → (p : ℕ) → wordAt s u p ≡ wordAt s v p
   unfolding wordAt
-  wordAt-equal u v e p =
-      sum-equal (kOf s) (λ r. u r ⊗ entry s r p) (λ r. v r ⊗ entry s r p)
-      (λ r hr. ap (λ (x : ℕ). x ⊗ entry s r p) (e r hr))
+  wordAt-equal u v e p = weights-equal (kOf s) (λ r. entry s r p) u v e
 
   -- multipliers that are 0 below k make the word 0
   pub wordAt-zeros : (u : ℕ → ℕ) → ((r : ℕ) → r < kOf s → u r ≡ 0) → (p : ℕ) → wordAt s u p ≡ 0
   unfolding wordAt
-  wordAt-zeros u e p =
-      sum-zeros (kOf s) (λ r. u r ⊗ entry s r p)
-      (λ r hr. ap (λ (x : ℕ). x ⊗ entry s r p) (e r hr) ∙ zero-times (entry s r p))
+  wordAt-zeros u e p = weights-zeros (kOf s) (λ r. entry s r p) u e
 
   -- a symbol of a word is a byte
   pub wordAt-below : (u : ℕ → ℕ) (p : ℕ) → wordAt s u p < 256
@@ -114,6 +104,11 @@ module _ (s : Settings) (h : Shape s) where
       ∙ ap (λ (x : ℕ). sum p (λ r. u r ⊗ entry s r p) ⊕ x)
       (ap (λ (x : ℕ). u p ⊗ x) (entry-one s h p hp) ∙ times-comm (u p) 1 ∙ one-times (u p) (b p))
 
+  -- where the multipliers before i are 0, symbol i is multiplier i
+  pub word-first : (u : ℕ → ℕ) → ((r : ℕ) → u r < 256) → (i : ℕ) → i < kOf s → ((r : ℕ) → r < i → u r ≡ 0) → wordAt s u i ≡ u i
+  word-first u b i hi zeros =
+      word-triangular u b i hi ∙ ap (λ (x : ℕ). x ⊕ u i) (weights-zeros i (λ r. entry s r i) u zeros) ∙ zero-plus (u i)
+
   -- ---- the first symbols determine the multipliers
 
   -- where the first i symbols are 0, so are the first i multipliers
@@ -124,14 +119,7 @@ module _ (s : Settings) (h : Shape s) where
       let before : (q : ℕ) → q < i → u q ≡ 0 = zero-multipliers u b i (le-of-lt hi) (λ p hp. e p (le-step hp)) in
       ⊎-elim
       (λ same.
-      ap u same
-      ∙ sym
-      (word-triangular u b i hi
-      ∙ ap (λ (x : ℕ). x ⊕ u i)
-      (sum-zeros i (λ q. u q ⊗ entry s q i)
-      (λ q hq. ap (λ (x : ℕ). x ⊗ entry s q i) (before q hq) ∙ zero-times (entry s q i)))
-      ∙ zero-plus (u i))
-      ∙ e i (lt-suc-self i))
+      ap u same ∙ sym (word-first u b i hi before) ∙ e i (lt-suc-self i))
       (λ below. before r below)
       (eq-or-lt-of-le (le-of-suc-le-suc hr))
 

@@ -8,8 +8,8 @@ use borrow.Author.Tests.{eq-eqb, ne-eqb, eqb-true, eqb-false}
 use Rattle.galois.specs.Byte.{_⊕_, _⊗_}
 use Rattle.galois.specs.Sum.{sum}
 use Rattle.galois.proofs.Xor.{plus-assoc, plus-zero, plus-self}
-use Rattle.galois.proofs.ByteProduct.{times-below, times-assoc, zero-times, one-times, distributes-left}
-use Rattle.galois.proofs.Sums.{sum-equal, sum-single, sum-below, sum-plus, sum-exchange, multiple-of-sum, sum-times}
+use Rattle.galois.proofs.ByteProduct.{times-below, times-assoc, zero-times, one-times}
+use Rattle.galois.proofs.Sums.{sum-equal, sum-single, sum-below, sum-exchange, sum-times, weights-plus, weights-times}
 
 -- every multiplier is a byte
 abbrev pub Bytes : (ℕ → ℕ) → Type 0
@@ -88,10 +88,7 @@ word-only k M q b p hq =
 
 -- the word of a sum of multipliers is the sum of the words
 pub word-plus : (k : ℕ) (M : ℕ → ℕ → ℕ) (u v : ℕ → ℕ) (p : ℕ) → word k M (λ r. u r ⊕ v r) p ≡ word k M u p ⊕ word k M v p
-word-plus k M u v p =
-    sum-equal k (λ r. (u r ⊕ v r) ⊗ M r p) (λ r. u r ⊗ M r p ⊕ v r ⊗ M r p)
-    (λ r _. distributes-left (M r p) (u r) (v r))
-    ∙ sum-plus k (λ r. u r ⊗ M r p) (λ r. v r ⊗ M r p)
+word-plus k M u v p = weights-plus k (λ r. M r p) u v
 
 -- ---- a matrix whose rows are words of another
 
@@ -102,9 +99,7 @@ within-rows k n M G w e u hu = (
   λ q. sum-below 8 k (λ r. u r ⊗ w r q) (λ r _. times-below (u r) (w r q)),
   λ p hp.
       sum-equal k (λ r. u r ⊗ M r p) (λ r. sum k (λ q. (u r ⊗ w r q) ⊗ G q p))
-      (λ r hr. ap (λ (x : ℕ). u r ⊗ x) (e r p hr hp) ∙ multiple-of-sum (u r) k (λ q. w r q ⊗ G q p)
-      ∙ sum-equal k (λ q. u r ⊗ (w r q ⊗ G q p)) (λ q. (u r ⊗ w r q) ⊗ G q p)
-      (λ q _. sym (times-assoc (u r) (w r q) (G q p))))
+      (λ r hr. ap (λ (x : ℕ). u r ⊗ x) (e r p hr hp) ∙ sym (weights-times k (λ q. G q p) (u r) (w r)))
       ∙ sum-exchange k k (λ r q. (u r ⊗ w r q) ⊗ G q p)
       ∙ sum-equal k (λ q. sum k (λ r. (u r ⊗ w r q) ⊗ G q p)) (λ q. sum k (λ r. u r ⊗ w r q) ⊗ G q p)
       (λ q _. sym (sum-times k (λ r. u r ⊗ w r q) (G q p))),

@@ -1,19 +1,24 @@
 -- The narrow numbers among the bytes: widening, α, and every byte as a + αb for one pair of narrow a and b.
-use mathlib.Core.Path.{_≡_, refl, sym, ap, ap₂, _∙_, subst}
+use mathlib.Core.Path.{_≡_, refl, sym, ap, ap₂, _∙_, subst, subst⁻¹}
 use mathlib.Core.Bool.{Bool, true, false, cond, not, _&&_, _||_}
 use mathlib.Core.Logic.{⊎-elim}
-use Prim.Native.Nat.{ℕ, _+_, _*_, _<_}
+use Prim.Native.Nat.{ℕ, _+_, _*_, _%_, _<_}
+use native.Mathlib.Nat.{mod-lt, zero-lt-suc}
 use native.Mathlib.Omega.{arith}
 use lib.Bits.{xor-shifted}
 use lib.Dec.{T, T-not, eqb, ltb, eqb→eq, eqb-refl, lit<}
 use borrow.Author.Tests.{lt-ltb, le-ltb, ltb-true}
 use Rattle.galois.specs.Bounded.{every}
 use Rattle.galois.specs.Byte.{_⊕_, _⊗_, high, low, byte, alpha, eight, widen}
-use Rattle.galois.specs.Narrow.{narrow, _⊞_, timesZ, timesBits, _⊠_}
+use Rattle.galois.specs.Narrow.{_⊞_, _⊠_}
+use Rattle.galois.specs.Sum.{sum}
+use Rattle.galois.proofs.Arithmetic.{arithmetic}
 use Rattle.galois.proofs.Cases.{and-left, and-right, or-cases, at, equal, equal₂}
-use Rattle.galois.proofs.ByteProduct.{high-below, low-below, high-high, high-low, low-high, low-low, eight-high}
+use Rattle.galois.proofs.ByteProduct.{high-below, low-below, high-high, high-low, low-high, low-low, eight-high, eight-below}
+use Rattle.galois.proofs.ByteProduct.{distributes, distributes-left, times-assoc, times-zero, high-remainder, low-remainder, remainder-times}
 use Rattle.galois.proofs.NarrowField.{narrows}
-use Rattle.galois.proofs.Xor.{plus-comm, plus-below}
+use Rattle.galois.proofs.Sums.{sum-equal, sum-plus, multiple-of-sum}
+use Rattle.galois.proofs.Xor.{plus-assoc, plus-comm, plus-below, zero-plus}
 
 pub widen-narrow : (a : ℕ) → a < 16 → widen a ≡ a
 unfolding widen
@@ -32,11 +37,11 @@ unfolding widen
 widen-above a h = rw (le-ltb a 16 h)
 
 pub widen-plus : (a b : ℕ) → a < 16 → b < 16 → widen (a ⊞ b) ≡ widen a ⊕ widen b
-unfolding every widen _⊞_ narrow _⊕_
+unfolding arithmetic
 widen-plus = equal₂ 16 (λ a b. widen (a ⊞ b)) (λ a b. widen a ⊕ widen b) tt
 
 pub widen-times : (a b : ℕ) → a < 16 → b < 16 → widen (a ⊠ b) ≡ widen a ⊗ widen b
-unfolding every widen _⊗_ _⊞_ _⊠_ narrow timesBits timesZ high low byte eight
+unfolding arithmetic
 widen-times = equal₂ 16 (λ a b. widen (a ⊠ b)) (λ a b. widen a ⊗ widen b) tt
 
 -- the product of bytes with its halves widened
@@ -55,12 +60,12 @@ times-widened x y =
 
 -- α × α = α + 8
 pub alpha-squared : alpha ⊗ alpha ≡ alpha ⊕ eight
-unfolding _⊗_ _⊞_ _⊠_ narrow timesBits timesZ high low byte eight _⊕_ alpha
+unfolding arithmetic
 alpha-squared = refl
 
 -- α times a narrow number
 alpha-times : (b : ℕ) → b < 16 → alpha ⊗ b ≡ b * 16
-unfolding every alpha _⊗_ _⊞_ _⊠_ narrow timesBits timesZ high low byte eight
+unfolding arithmetic
 alpha-times = equal 16 (λ b. alpha ⊗ b) (λ b. b * 16) tt
 
 narrow-byte : (a b : ℕ) → a < 16 → b < 16 → a ⊕ alpha ⊗ b ≡ b * 16 + a
@@ -79,6 +84,23 @@ byte-parts-unique a b c d ha hb hc hd e =
     let same : b * 16 + a ≡ d * 16 + c = sym (narrow-byte a b ha hb) ∙ e ∙ narrow-byte c d hc hd in
     (omega arith, omega arith)
 
+-- so a product with a byte is one with its low part, and α times one with its high part
+pub times-parts : (x y : ℕ) → x ⊗ y ≡ low x ⊗ y ⊕ alpha ⊗ (high x ⊗ y)
+times-parts x y =
+    remainder-times x y
+    ∙ ap (λ (z : ℕ). z ⊗ y) (byte-parts (x % 256) (mod-lt x (zero-lt-suc 255))
+    ∙ sym (ap₂ (λ (l h : ℕ). l ⊕ alpha ⊗ h) (low-remainder x) (high-remainder x)))
+    ∙ distributes-left y (low x) (alpha ⊗ high x)
+    ∙ ap (λ (z : ℕ). low x ⊗ y ⊕ z) (times-assoc alpha (high x) y)
+
+-- and a weighted sum is one by the low parts of the weights, and α times one by their high parts
+pub weights-parts : (m : ℕ) (g u : ℕ → ℕ)
+    → sum m (λ i. u i ⊗ g i) ≡ sum m (λ i. low (u i) ⊗ g i) ⊕ alpha ⊗ sum m (λ i. high (u i) ⊗ g i)
+weights-parts m g u =
+    sum-equal m (λ i. u i ⊗ g i) (λ i. low (u i) ⊗ g i ⊕ alpha ⊗ (high (u i) ⊗ g i)) (λ i _. times-parts (u i) (g i))
+    ∙ sum-plus m (λ i. low (u i) ⊗ g i) (λ i. alpha ⊗ (high (u i) ⊗ g i))
+    ∙ ap (λ (s : ℕ). sum m (λ i. low (u i) ⊗ g i) ⊕ s) (sym (multiple-of-sum alpha m (λ i. high (u i) ⊗ g i)))
+
 -- ---- the norm of a + αb is 0 at 0 only
 
 -- the product of narrow numbers is their product as bytes
@@ -87,20 +109,20 @@ narrow-product a b ha hb =
     ap₂ _⊗_ (sym (widen-narrow a ha)) (sym (widen-narrow b hb)) ∙ sym (widen-times a b ha hb)
     ∙ widen-narrow (a ⊠ b) (narrows .times-below a b ha hb)
 
+-- and narrow
+pub narrow-times : (a b : ℕ) → a < 16 → b < 16 → a ⊗ b < 16
+narrow-times a b ha hb = subst⁻¹ (λ (x : ℕ). x < 16) (narrow-product a b ha hb) (narrows .times-below a b ha hb)
+
 -- the two sides differ, or a and b are 0
 normTest : ℕ → ℕ → Bool
 normTest a b = not (eqb (a ⊠ (a ⊕ b)) (b ⊠ (eight ⊠ b))) || (eqb a 0 && eqb b 0)
 
 norm-passed : (a b : ℕ) → a < 16 → b < 16 → T (normTest a b)
-unfolding normTest every _⊠_ narrow timesBits timesZ eight _⊕_
+unfolding normTest arithmetic
 norm-passed a b ha hb = at 16 (normTest a) (at 16 (λ a. every 16 (normTest a)) tt a ha) b hb
 
-eight-below : eight < 16
-unfolding eight
-eight-below = lit< tt
-
 -- a × (a + b) = 8 × b × b only for a = b = 0
-pub norm-zero : (a b : ℕ) → a < 16 → b < 16 → a ⊗ (a ⊕ b) ≡ b ⊗ (eight ⊗ b) → (a ≡ 0) × (b ≡ 0)
+norm-zero : (a b : ℕ) → a < 16 → b < 16 → a ⊗ (a ⊕ b) ≡ b ⊗ (eight ⊗ b) → (a ≡ 0) × (b ≡ 0)
 unfolding normTest
 norm-zero a b ha hb e =
     let x : ℕ = a ⊠ (a ⊕ b) in
@@ -111,3 +133,26 @@ norm-zero a b ha hb e =
     ⊎-elim (λ differ. absurd (T-not (eqb x y) differ (subst (λ (z : ℕ). T (eqb x z)) same (eqb-refl x))))
     (λ both. (eqb→eq a 0 (and-left (eqb a 0) (eqb b 0) both), eqb→eq b 0 (and-right (eqb a 0) (eqb b 0) both)))
     (or-cases (not (eqb x y)) (eqb a 0 && eqb b 0) (norm-passed a b ha hb))
+
+-- α (a + αb) = 8b + α (a + b)
+alpha-parts : (a b : ℕ) → alpha ⊗ (a ⊕ alpha ⊗ b) ≡ eight ⊗ b ⊕ alpha ⊗ (a ⊕ b)
+alpha-parts a b =
+    distributes alpha a (alpha ⊗ b)
+    ∙ ap (λ (t : ℕ). alpha ⊗ a ⊕ t)
+    (sym (times-assoc alpha alpha b) ∙ ap (λ (t : ℕ). t ⊗ b) alpha-squared ∙ distributes-left b alpha eight)
+    ∙ sym (plus-assoc (alpha ⊗ a) (alpha ⊗ b) (eight ⊗ b))
+    ∙ ap (λ (t : ℕ). t ⊕ eight ⊗ b) (sym (distributes alpha a b))
+    ∙ plus-comm (alpha ⊗ (a ⊕ b)) (eight ⊗ b)
+
+-- a byte whose multiple by α has parts in the byte's own ratio is 0
+pub ratio-zero : (x : ℕ) → x < 256 → (a b : ℕ) → a < 16 → b < 16 → alpha ⊗ x ≡ a ⊕ alpha ⊗ b
+    → low x ⊗ b ≡ high x ⊗ a → x ≡ 0
+ratio-zero x hx a b ha hb e ratio =
+    let l : ℕ = low x in
+    let g : ℕ = high x in
+    let parts = byte-parts-unique (eight ⊗ g) (l ⊕ g) a b (narrow-times eight g eight-below (high-below x))
+    (plus-below 4 l g (low-below x) (high-below x)) ha hb
+    (sym (ap (λ (t : ℕ). alpha ⊗ t) (byte-parts x hx) ∙ alpha-parts l g) ∙ e) in
+    let zeros = norm-zero l g (low-below x) (high-below x)
+    (ap (λ (t : ℕ). l ⊗ t) (parts .1) ∙ ratio ∙ ap (λ (t : ℕ). g ⊗ t) (sym (parts .0))) in
+    byte-parts x hx ∙ ap₂ (λ (p q : ℕ). p ⊕ alpha ⊗ q) (zeros .0) (zeros .1) ∙ zero-plus (alpha ⊗ 0) ∙ times-zero alpha

@@ -6,7 +6,7 @@ use native.Mathlib.Nat.{add-zero, add-suc, eq-or-lt-of-le, le-of-suc-le-suc, le-
 use lib.Pow.{pow-pos}
 use Rattle.galois.specs.Byte.{_⊕_, _⊗_}
 use Rattle.galois.specs.Sum.{sum}
-use Rattle.galois.proofs.ByteProduct.{distributes, distributes-left}
+use Rattle.galois.proofs.ByteProduct.{distributes, distributes-left, times-assoc, zero-times}
 use Rattle.galois.proofs.Xor.{plus-assoc, plus-zero, zero-plus, plus-self, plus-exchange, plus-below, Additive, additive-zero}
 
 -- ---- term by term
@@ -76,3 +76,26 @@ multiple-of-sum x = additive-of-sum (λ y. x ⊗ y) (distributes x)
 
 pub sum-times : (m : ℕ) (f : ℕ → ℕ) (x : ℕ) → sum m f ⊗ x ≡ sum m (λ i. f i ⊗ x)
 sum-times m f x = additive-of-sum (λ y. y ⊗ x) (distributes-left x) m f
+
+-- ---- weighted sums: the terms g, each by its weight
+
+module _ (m : ℕ) (g : ℕ → ℕ) where
+  -- they add with their weights
+  pub weights-plus : (u v : ℕ → ℕ) → sum m (λ i. (u i ⊕ v i) ⊗ g i) ≡ sum m (λ i. u i ⊗ g i) ⊕ sum m (λ i. v i ⊗ g i)
+  weights-plus u v =
+      sum-equal m (λ i. (u i ⊕ v i) ⊗ g i) (λ i. u i ⊗ g i ⊕ v i ⊗ g i) (λ i _. distributes-left (g i) (u i) (v i))
+      ∙ sum-plus m (λ i. u i ⊗ g i) (λ i. v i ⊗ g i)
+
+  -- and scale with them
+  pub weights-times : (c : ℕ) (u : ℕ → ℕ) → sum m (λ i. (c ⊗ u i) ⊗ g i) ≡ c ⊗ sum m (λ i. u i ⊗ g i)
+  weights-times c u =
+      sum-equal m (λ i. (c ⊗ u i) ⊗ g i) (λ i. c ⊗ (u i ⊗ g i)) (λ i _. times-assoc c (u i) (g i))
+      ∙ sym (multiple-of-sum c m (λ i. u i ⊗ g i))
+
+  -- equal weights make equal sums
+  pub weights-equal : (u v : ℕ → ℕ) → ((i : ℕ) → i < m → u i ≡ v i) → sum m (λ i. u i ⊗ g i) ≡ sum m (λ i. v i ⊗ g i)
+  weights-equal u v e = sum-equal m (λ i. u i ⊗ g i) (λ i. v i ⊗ g i) (λ i h. ap (λ (x : ℕ). x ⊗ g i) (e i h))
+
+  -- and weights that are 0 make 0
+  pub weights-zeros : (u : ℕ → ℕ) → ((i : ℕ) → i < m → u i ≡ 0) → sum m (λ i. u i ⊗ g i) ≡ 0
+  weights-zeros u e = sum-zeros m (λ i. u i ⊗ g i) (λ i h. ap (λ (x : ℕ). x ⊗ g i) (e i h) ∙ zero-times (g i))

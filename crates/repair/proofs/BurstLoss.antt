@@ -22,10 +22,10 @@ use Rattle.code.specs.Word.{wordAt}
 use Rattle.code.proofs.Shape.{Shape}
 use Rattle.code.proofs.Rows.{spread-zero-low}
 use Rattle.code.proofs.Entries.{entry-zero-high, entry-beside}
-use Rattle.code.proofs.Words.{zero-multipliers}
+use Rattle.code.proofs.Words.{word-first, zero-multipliers}
 use Rattle.repair.proofs.SpreadWords.{spreadWord, spread-roots}
 use Rattle.repair.proofs.Erasures.{count-longer, zero-passed}
-use Rattle.repair.proofs.LateRows.{late, late-either, word-late, word-first, word-alpha}
+use Rattle.repair.proofs.LateRows.{late, late-either, word-late, word-alpha}
 
 -- the word of the rows from d on is 0 before position d
 late-word-low : (s : Settings) (u : ℕ → ℕ) (p : ℕ) → p < dOf s → spreadWord s (late s u) p ≡ 0

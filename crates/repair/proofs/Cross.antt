@@ -1,15 +1,51 @@
--- The cross word of two bytes x and y: x times the high word and y times the low word, which is 0 wherever the word is 0;
--- and the one byte whose multiple by α has parts in its own ratio: 0.
+-- A word over the spread form by the parts of its multipliers: it is a + αb for two words of narrow symbols.
+-- And the cross word of two bytes x and y: x times the high word and y times the low word, which is 0 wherever the word is 0.
 use mathlib.Core.Path.{_≡_, sym, ap, ap₂, _∙_}
 use Prim.Native.Nat.{ℕ, _<_}
 use lib.Dec.{lit<}
-use Rattle.galois.specs.Byte.{_⊕_, _⊗_, high, low, alpha, eight}
-use Rattle.galois.proofs.Xor.{plus-below, plus-comm, plus-assoc, zero-plus, plus-self}
-use Rattle.galois.proofs.ByteProduct.{high-below, low-below, times-below, times-comm, times-assoc, times-zero, distributes, distributes-left}
-use Rattle.galois.proofs.Extension.{alpha-squared, byte-parts, byte-parts-unique, norm-zero}
+use Rattle.galois.specs.Byte.{_⊕_, _⊗_, high, low, alpha, widen}
+use Rattle.galois.proofs.Xor.{plus-below, zero-plus, plus-self}
+use Rattle.galois.proofs.ByteProduct.{high-below, low-below, times-below, times-comm, times-zero}
+use Rattle.galois.proofs.Extension.{widen-below, narrow-times, byte-parts-unique, weights-parts}
+use Rattle.galois.proofs.Sums.{sum-below, weights-plus, weights-times, weights-zeros}
 use Rattle.code.specs.declared.settings.Settings.{Settings}
+use Rattle.code.specs.Settings.{kOf}
+use Rattle.code.specs.Matrix.{spread}
 use Rattle.repair.proofs.SpreadWords.{spreadWord}
-use Rattle.repair.proofs.Parts.{spread-plus, spread-times, narrow-product, lowWord, highWord, low-word-narrow, high-word-narrow, word-parts}
+
+-- ---- the parts of a word
+
+-- narrow multipliers make a narrow word
+narrow-word : (s : Settings) (a : ℕ → ℕ) → ((r : ℕ) → a r < 16) → (p : ℕ) → spreadWord s a p < 16
+unfolding spreadWord
+narrow-word s a narrow p =
+    sum-below 4 (kOf s) (λ r. a r ⊗ widen (spread s r p))
+    (λ r _. narrow-times (a r) (widen (spread s r p)) (narrow r) (widen-below (spread s r p)))
+
+-- the words of the low and of the high parts of the multipliers
+abbrev pub lowWord : Settings → (ℕ → ℕ) → ℕ → ℕ
+lowWord s u = spreadWord s (λ r. low (u r))
+
+abbrev pub highWord : Settings → (ℕ → ℕ) → ℕ → ℕ
+highWord s u = spreadWord s (λ r. high (u r))
+
+module _ (s : Settings) (u : ℕ → ℕ) where
+  -- both are narrow
+  pub low-word-narrow : (p : ℕ) → lowWord s u p < 16
+  low-word-narrow = narrow-word s (λ r. low (u r)) (λ r. low-below (u r))
+
+  pub high-word-narrow : (p : ℕ) → highWord s u p < 16
+  high-word-narrow = narrow-word s (λ r. high (u r)) (λ r. high-below (u r))
+
+  -- the word is the first, and α times the second
+  pub word-parts : (p : ℕ) → spreadWord s u p ≡ lowWord s u p ⊕ alpha ⊗ highWord s u p
+  unfolding spreadWord
+  word-parts p = weights-parts (kOf s) (λ r. widen (spread s r p)) u
+
+  -- multipliers that are 0 make the word 0
+  pub spread-zeros : ((r : ℕ) → r < kOf s → u r ≡ 0) → (p : ℕ) → spreadWord s u p ≡ 0
+  unfolding spreadWord
+  spread-zeros e p = weights-zeros (kOf s) (λ r. widen (spread s r p)) u e
 
 -- ---- the cross word
 
@@ -35,45 +71,16 @@ cross-self z = ap (λ (t : ℕ). t ⊕ high z ⊗ low z) (times-comm (low z) (hi
 module _ (s : Settings) (x y : ℕ) (u : ℕ → ℕ) where
   -- the word of the cross multipliers
   pub word-cross : (p : ℕ) → spreadWord s (λ r. cross x y (u r)) p ≡ x ⊗ highWord s u p ⊕ y ⊗ lowWord s u p
-  unfolding cross
+  unfolding cross spreadWord
   word-cross p =
-      spread-plus s (λ r. x ⊗ high (u r)) (λ r. y ⊗ low (u r)) p
-      ∙ ap₂ _⊕_ (spread-times s x (λ r. high (u r)) p) (spread-times s y (λ r. low (u r)) p)
+      let g : ℕ → ℕ = λ r. widen (spread s r p) in
+      weights-plus (kOf s) g (λ r. x ⊗ high (u r)) (λ r. y ⊗ low (u r))
+      ∙ ap₂ _⊕_ (weights-times (kOf s) g x (λ r. high (u r))) (weights-times (kOf s) g y (λ r. low (u r)))
 
   -- it is 0 where the word of the multipliers is
-  pub cross-follows : ((r : ℕ) → u r < 256) → (p : ℕ) → spreadWord s u p ≡ 0 → spreadWord s (λ r. cross x y (u r)) p ≡ 0
-  cross-follows b p e =
+  pub cross-follows : (p : ℕ) → spreadWord s u p ≡ 0 → spreadWord s (λ r. cross x y (u r)) p ≡ 0
+  cross-follows p e =
       let parts = byte-parts-unique (lowWord s u p) (highWord s u p) 0 0 (low-word-narrow s u p) (high-word-narrow s u p)
-      (lit< tt) (lit< tt) (sym (word-parts s u b p) ∙ e ∙ sym (zero-plus (alpha ⊗ 0) ∙ times-zero alpha)) in
+      (lit< tt) (lit< tt) (sym (word-parts s u p) ∙ e ∙ sym (zero-plus (alpha ⊗ 0) ∙ times-zero alpha)) in
       word-cross p ∙ ap₂ (λ (g l : ℕ). x ⊗ g ⊕ y ⊗ l) (parts .1) (parts .0)
       ∙ ap₂ _⊕_ (times-zero x) (times-zero y) ∙ plus-self 0
-
--- ---- α times a byte
-
--- α (a + αb) = 8b + α (a + b)
-alpha-parts : (a b : ℕ) → alpha ⊗ (a ⊕ alpha ⊗ b) ≡ eight ⊗ b ⊕ alpha ⊗ (a ⊕ b)
-alpha-parts a b =
-    distributes alpha a (alpha ⊗ b)
-    ∙ ap (λ (t : ℕ). alpha ⊗ a ⊕ t)
-    (sym (times-assoc alpha alpha b) ∙ ap (λ (t : ℕ). t ⊗ b) alpha-squared ∙ distributes-left b alpha eight)
-    ∙ sym (plus-assoc (alpha ⊗ a) (alpha ⊗ b) (eight ⊗ b))
-    ∙ ap (λ (t : ℕ). t ⊕ eight ⊗ b) (sym (distributes alpha a b))
-    ∙ plus-comm (alpha ⊗ (a ⊕ b)) (eight ⊗ b)
-
--- 8 is narrow
-eight-narrow : eight < 16
-unfolding eight
-eight-narrow = lit< tt
-
--- a byte whose multiple by α has parts in the byte's own ratio is 0
-pub ratio-zero : (x : ℕ) → x < 256 → (a b : ℕ) → a < 16 → b < 16 → alpha ⊗ x ≡ a ⊕ alpha ⊗ b
-    → low x ⊗ b ≡ high x ⊗ a → x ≡ 0
-ratio-zero x hx a b ha hb e ratio =
-    let l : ℕ = low x in
-    let g : ℕ = high x in
-    let parts = byte-parts-unique (eight ⊗ g) (l ⊕ g) a b (narrow-product eight g eight-narrow (high-below x))
-    (plus-below 4 l g (low-below x) (high-below x)) ha hb
-    (sym (ap (λ (t : ℕ). alpha ⊗ t) (byte-parts x hx) ∙ alpha-parts l g) ∙ e) in
-    let zeros = norm-zero l g (low-below x) (high-below x)
-    (ap (λ (t : ℕ). l ⊗ t) (parts .1) ∙ ratio ∙ ap (λ (t : ℕ). g ⊗ t) (sym (parts .0))) in
-    byte-parts x hx ∙ ap₂ (λ (p q : ℕ). p ⊕ alpha ⊗ q) (zeros .0) (zeros .1) ∙ zero-plus (alpha ⊗ 0) ∙ times-zero alpha

@@ -9,14 +9,13 @@ use Rattle.galois.specs.Byte.{_⊕_, _⊗_, alpha, widen}
 use Rattle.galois.specs.Sum.{sum}
 use Rattle.galois.proofs.Xor.{plus-zero, zero-plus}
 use Rattle.galois.proofs.ByteProduct.{times-comm, times-zero, zero-times}
-use Rattle.galois.proofs.Sums.{sum-equal, sum-zeros, sum-single, sum-plus}
+use Rattle.galois.proofs.Sums.{sum-equal, sum-single, sum-plus}
 use Rattle.code.specs.declared.settings.Settings.{Settings}
 use Rattle.code.specs.Settings.{delayOf, kOf, nOf, dOf}
 use Rattle.code.specs.Matrix.{spread, entry}
 use Rattle.code.specs.Word.{wordAt}
 use Rattle.code.proofs.Shape.{Shape}
 use Rattle.code.proofs.Entries.{entry-spread-before, entry-spread-row, entry-alpha, entry-beside}
-use Rattle.code.proofs.Words.{word-triangular}
 use Rattle.repair.proofs.SpreadWords.{spreadWord}
 
 -- ---- the multipliers of the rows from d on
@@ -54,15 +53,6 @@ module _ (s : Settings) (h : Shape s) (u : ℕ → ℕ) where
   word-before p hp =
       sum-equal (kOf s) (λ r. u r ⊗ entry s r p) (λ r. u r ⊗ widen (spread s r p))
       (λ r hr. ap (λ (x : ℕ). u r ⊗ x) (entry-spread-before s r p hr (omega arith) hp))
-
-  -- where the multipliers before i are 0, symbol i is multiplier i
-  pub word-first : ((r : ℕ) → u r < 256) → (i : ℕ) → i < kOf s → ((r : ℕ) → r < i → u r ≡ 0) → wordAt s u i ≡ u i
-  word-first b i hi zeros =
-      word-triangular s h u b i hi
-      ∙ ap (λ (x : ℕ). x ⊕ u i)
-      (sum-zeros i (λ r. u r ⊗ entry s r i)
-      (λ r hr. ap (λ (x : ℕ). x ⊗ entry s r i) (zeros r hr) ∙ zero-times (entry s r i)))
-      ∙ zero-plus (u i)
 
 -- ---- position T + i, for a row i below d
 

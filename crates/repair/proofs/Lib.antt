@@ -6,7 +6,6 @@ pub mod RowUnique
 pub mod SpreadWords
 pub mod Erasures
 pub mod LateRows
-pub mod Parts
 pub mod Cross
 pub mod LateLoss
 pub mod BurstLoss

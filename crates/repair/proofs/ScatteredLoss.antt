@@ -6,20 +6,21 @@ use mathlib.Core.Logic.{⊎-elim}
 use Prim.Native.Nat.{ℕ, _+_, _≤_, _<_}
 use native.Mathlib.Nat.{eq-or-lt-of-le}
 use native.Mathlib.Omega.{arith}
-use lib.Dec.{T, lit<}
+use lib.Dec.{T}
 use Rattle.galois.specs.Bounded.{count}
 use Rattle.galois.specs.Byte.{_⊗_, high, low, alpha}
 use Rattle.galois.proofs.Xor.{plus-cancel}
+use Rattle.galois.proofs.Extension.{ratio-zero}
 use Rattle.code.specs.declared.settings.Settings.{Settings}
 use Rattle.code.specs.Settings.{delayOf, kOf, nOf, dOf}
 use Rattle.code.specs.Word.{wordAt}
 use Rattle.code.proofs.Shape.{Shape}
-use Rattle.code.proofs.Words.{zero-multipliers}
+use Rattle.code.proofs.Words.{word-first, zero-multipliers}
 use Rattle.repair.proofs.SpreadWords.{spreadWord, spread-roots}
 use Rattle.repair.proofs.Erasures.{count-longer, count-next, zeros-from, few-scattered}
-use Rattle.repair.proofs.LateRows.{late, late-either, word-before, word-first, word-alpha}
-use Rattle.repair.proofs.Parts.{spread-zeros, lowWord, highWord, low-word-narrow, high-word-narrow, word-parts}
-use Rattle.repair.proofs.Cross.{cross, cross-below, cross-zero, cross-self, word-cross, cross-follows, ratio-zero}
+use Rattle.repair.proofs.LateRows.{late, late-either, word-before, word-alpha}
+use Rattle.repair.proofs.Cross.{lowWord, highWord, low-word-narrow, high-word-narrow, word-parts, spread-zeros}
+use Rattle.repair.proofs.Cross.{cross, cross-below, cross-zero, cross-self, word-cross, cross-follows}
 
 -- the multipliers of the cross word of row i's parts
 crossed : (ℕ → ℕ) → ℕ → ℕ → ℕ
@@ -67,7 +68,7 @@ module _ (s : Settings) (h : Shape s) (u : ℕ → ℕ) (b : (r : ℕ) → u r <
   -- and wherever the word is
   crossed-zero : (p : ℕ) → spreadWord s u p ≡ 0 → spreadWord s (crossed u i) p ≡ 0
   unfolding crossed
-  crossed-zero = cross-follows s (low (u i)) (high (u i)) u b
+  crossed-zero = cross-follows s (low (u i)) (high (u i)) u
 
   -- so where i is lost it keeps k zeros, and is 0 everywhere
   crossed-everywhere : T (E i) → (p : ℕ) → p < 16 → spreadWord s (crossed u i) p ≡ 0
@@ -112,7 +113,7 @@ module _ (s : Settings) (h : Shape s) (u : ℕ → ℕ) (b : (r : ℕ) → u r <
       let v : ℕ → ℕ = late s u in
       ratio-zero (u i) (b i) (lowWord s v p) (highWord s v p) (low-word-narrow s v p) (high-word-narrow s v p)
       (plus-cancel (alpha ⊗ u i) (spreadWord s v p) (sym (word-alpha s h u i early) ∙ last)
-      ∙ word-parts s v (λ r. late-either (λ z. z < 256) s u r (λ _. lit< tt) (λ _. b r)) p)
+      ∙ word-parts s v p)
       (late-ratio t p)
 
   -- by whether i and T + i are lost

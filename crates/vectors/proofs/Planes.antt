@@ -9,17 +9,18 @@ use native.Mathlib.Omega.{arith}
 use lib.Bits.{bitAnd, bitOr, or-add-and, and-le-l, and-le-r, and-mod, or-mod, or-shr}
 use lib.ListN.{getD, replicate, getD-replicate}
 use Rattle.galois.specs.Bounded.{every}
-use Rattle.galois.specs.Byte.{_⊕_, _⊗_, alpha}
+use Rattle.galois.specs.Byte.{_⊕_, _⊗_, high, low, alpha}
 use Rattle.galois.specs.Sum.{sum}
 use Rattle.galois.specs.Table.{table}
 use Rattle.galois.proofs.ByIndex.{getD-table, table-equal}
 use Rattle.galois.proofs.ByteProduct.{distributes, zero-times, one-times}
 use Rattle.galois.proofs.Cases.{equal, le-or-lt}
-use Rattle.galois.proofs.Sums.{sum-equal, sum-plus, multiple-of-sum}
+use Rattle.galois.proofs.Extension.{weights-parts}
+use Rattle.galois.proofs.Sums.{sum-equal, sum-plus, multiple-of-sum, weights-equal}
 use Rattle.galois.proofs.Xor.{plus-assoc, plus-self, plus-zero, zero-plus}
 use Rattle.vectors.specs.Pairs.{vectorOf, Paired}
 use Rattle.vectors.specs.Halves.{halfOf, halvesSum, Under}
-use Rattle.vectors.proofs.Halves.{fromBits, narrow-times, by-halves}
+use Rattle.vectors.proofs.Halves.{fromBits, narrow-times}
 
 -- lane v of entry e
 abbrev pub lane : List (List ℕ) → ℕ → ℕ → ℕ
@@ -239,14 +240,14 @@ four-planes p₃ p₂ p₁ p₀ l₃ d₃ l₂ d₂ l₁ d₁ l₀ f₃ e₃ f�
     ap (λ (x : ℕ). x ⊕ p₀ v) (lane-of d₁ (λ v. 2 ⊗ getD l₁ v 0) e₁ v h ∙ ap (λ (x : ℕ). 2 ⊗ x) third))
 
 -- the sum by the low halves and α times that by the high halves are the sum by the coefficients
-pub by-both-halves : (m : ℕ) (low high c y : ℕ → ℕ)
-    → ((i : ℕ) → i < m → low i ≡ c i % 16) → ((i : ℕ) → i < m → high i ≡ c i / 16 % 16)
-    → sum m (λ i. low i ⊗ y i) ⊕ alpha ⊗ sum m (λ i. high i ⊗ y i) ≡ sum m (λ i. c i ⊗ y i)
-by-both-halves m low high c y is-low is-high =
-    ap (λ (s : ℕ). sum m (λ i. low i ⊗ y i) ⊕ s) (multiple-of-sum alpha m (λ i. high i ⊗ y i))
-    ∙ sym (sum-plus m (λ i. low i ⊗ y i) (λ i. alpha ⊗ (high i ⊗ y i)))
-    ∙ sum-equal m (λ i. low i ⊗ y i ⊕ alpha ⊗ (high i ⊗ y i)) (λ i. c i ⊗ y i)
-    (λ i h. ap₂ (λ (l u : ℕ). l ⊗ y i ⊕ alpha ⊗ (u ⊗ y i)) (is-low i h) (is-high i h) ∙ by-halves (c i) (y i))
+pub by-both-halves : (m : ℕ) (lows highs c y : ℕ → ℕ)
+    → ((i : ℕ) → i < m → lows i ≡ c i % 16) → ((i : ℕ) → i < m → highs i ≡ c i / 16 % 16)
+    → sum m (λ i. lows i ⊗ y i) ⊕ alpha ⊗ sum m (λ i. highs i ⊗ y i) ≡ sum m (λ i. c i ⊗ y i)
+unfolding low high
+by-both-halves m lows highs c y is-low is-high =
+    ap₂ (λ (l h : ℕ). l ⊕ alpha ⊗ h) (weights-equal m y lows (λ i. low (c i)) is-low)
+    (weights-equal m y highs (λ i. high (c i)) is-high)
+    ∙ sym (weights-parts m y c)
 
 -- ---- halves below 2
 
