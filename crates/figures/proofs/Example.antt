@@ -5,35 +5,22 @@ use mathlib.Core.List.{List, [], _∷_, _++_}
 use Prim.Native.Nat.{ℕ, zero, suc, _-_, _/_}
 use lib.Dec.{T}
 use lib.ListN.{length, replicate}
-use Rattle.galois.specs.Bounded.{every, any}
-use Rattle.galois.specs.Narrow.{narrow, timesZ, timesBits, _⊞_, _⊠_, narrowReciprocals, narrowReciprocal, narrowQuotient}
-use Rattle.galois.specs.Byte.{_⊕_, high, low, byte, alpha, eight, _⊗_, first, reciprocal, quotient, widen}
-use Rattle.galois.specs.Sum.{sum}
 use Rattle.galois.proofs.Cases.{and-left, and-right, both-pass}
 use Rattle.code.specs.declared.settings.Settings.{Settings}
-use Rattle.galois.specs.Table.{table}
-use Rattle.code.specs.Settings.{accepted, all, delayOf, kOf, nOf, dOf}
-use Rattle.code.specs.Matrix.{point, factor, product, spread, alphaEntry, entry}
-use Rattle.code.specs.Word.{wordAt, multipliers, symbol, unit, systematicOf}
-use Rattle.elimination.specs.Elimination.{cell, free, pivotFrom, scaledAt, cleared, pivoted, columnStep, firstRoles, columns, eliminated}
-use Rattle.elimination.specs.Elimination.{combined, clashes, differs, symbolOf}
+use Rattle.code.specs.Settings.{accepted}
 use Rattle.protocol.specs.declared.Receiver.{Receiver}
-use Rattle.protocol.specs.Lengths.{lastSlot, messageLen, bodyLen, frameLen, rowLen, rowCount, receiverLen}
-use Rattle.protocol.specs.Rows.{putRow, joined}
-use Rattle.protocol.specs.Frame.{mark, five, slotBytes, header}
 use Rattle.protocol.specs.declared.Answer.the-variants as answer
-use Rattle.protocol.specs.Causes.{agree, openCause, lossCause, frameCauseOf}
-use Rattle.protocol.specs.Verdict.{rowAt, reportedAt, arrived, someCodeword}
-use Rattle.protocol.specs.Calls.{OpenedReceiver, receivedZeros, openReceiverOf, Reported, messageDue, lossOf, heardOf}
+use Rattle.protocol.specs.Lengths.{messageLen, frameLen, receiverLen}
+use Rattle.protocol.specs.Calls.{OpenedReceiver, openReceiverOf, Reported, messageDue, heardOf}
 use Rattle.protocol.specs.TwoLists.{Report, heard, missed, reportOf}
-use Rattle.protocol.proofs.QuickVerdict.{quickSymbol, verdictBy, bufferBy, quickReply, quickMoved, quickReport}
-use Rattle.protocol.proofs.QuickVerdict.{small, smallFrames, quick-report}
+use Rattle.protocol.proofs.QuickVerdict.{quickReport, small, smallFrames, quick-report}
 use Rattle.numbers.specs.Digits.{decimal, decimalUpTo}
 use Rattle.lines.specs.Text.{stopLine, lineOf}
 use Rattle.frames.specs.Fields.{settingsAt, slotAt, settingsIn, slotIn}
 use Rattle.stops.specs.Stops.{recordingCause, frameStop}
 use Rattle.steps.specs.Steps.{refuses}
 use Rattle.player.specs.Transcript.{Rest, andThen, skipped, played, pieces, playedFrom, transcript}
+use Rattle.figures.proofs.Computing.{computing}
 
 -- ---- playing through elimination
 
@@ -129,8 +116,7 @@ quickTranscript =
 
 -- it is what the definition prints
 quickly-printed : transcript example ≡ quickTranscript
-unfolding transcript playedFrom quickTranscript Alike recordingCause settingsAt pieces example smallAll small
-    accepted all delayOf nOf kOf messageLen bodyLen frameLen rowLen rowCount receiverLen openReceiverOf openCause receivedZeros joined
+unfolding computing transcript playedFrom quickTranscript Alike recordingCause settingsAt pieces example smallAll
 quickly-printed =
     let s : Settings = settingsIn example in
     let opened : OpenedReceiver = openReceiverOf s (replicate (receiverLen s) 0) in
@@ -138,15 +124,8 @@ quickly-printed =
 
 -- computed, as document 01 prints it
 computed : quickTranscript ≡ exampleLines
-unfolding quickTranscript exampleLines quickPlayed quickSkipped andThen pieces settingsAt slotAt frameStop example
+unfolding computing quickTranscript exampleLines quickPlayed quickSkipped andThen pieces settingsAt slotAt frameStop example
     lineOf decimal decimalUpTo stopLine
-    table _⊠_ _⊞_ narrow timesBits timesZ narrowQuotient narrowReciprocal narrowReciprocals
-    _⊕_ _⊗_ high low byte eight alpha reciprocal first quotient widen sum every any
-    delayOf kOf nOf dOf all accepted point factor product spread alphaEntry entry wordAt multipliers symbol unit systematicOf
-    lastSlot messageLen bodyLen frameLen rowLen rowCount receiverLen putRow joined header mark five slotBytes
-    openReceiverOf openCause receivedZeros lossCause frameCauseOf agree messageDue someCodeword arrived rowAt reportedAt
-    quickReport quickMoved quickReply verdictBy bufferBy quickSymbol
-    cell free pivotFrom scaledAt cleared pivoted columnStep firstRoles columns eliminated combined clashes differs symbolOf
 computed = refl
 
 pub example-printed : transcript example ≡ exampleLines

@@ -1,2 +1,4 @@
+pub mod Computing
 pub mod Card
 pub mod Example
+pub mod FigureTen

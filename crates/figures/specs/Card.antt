@@ -13,7 +13,7 @@ use Rattle.protocol.specs.declared.Reply.{Reply}
 use Rattle.protocol.specs.declared.Reply.the-variants as reply
 use Rattle.protocol.specs.Lengths.{messageLen, frameLen, senderLen, receiverLen}
 use Rattle.protocol.specs.Calls.{OpenedSender, OpenedReceiver, openSenderOf, openReceiverOf, messageDue}
-use Rattle.protocol.specs.TwoLists.{SendMade, sends, Report, heard, missed, ReportMade, reports}
+use Rattle.protocol.specs.TwoLists.{Send, SendMade, sends, Report, heard, missed, ReportMade, reports}
 
 -- what a report tells: of which message, at which slot, its reply, and its message buffer
 pub record Told : Type 0 where
@@ -63,11 +63,15 @@ messageAt zero = 0x01 ∷ 0x00 ∷ []
 messageAt (suc zero) = 0x00 ∷ 0x01 ∷ []
 messageAt (suc (suc t)) = 0x00 ∷ 0x00 ∷ []
 
--- the sends of slots 0 to m - 1 after an opening; each lent byte is 7
+-- the calls of the sender for slots 0 to m - 1; each lent byte is 7
+unfoldable pub sendCalls : Settings → ℕ → List Send
+sendCalls s m = table m (λ t. record { message = messageAt t; frame = replicate (frameLen s) 7 })
+
+-- the sends of slots 0 to m - 1 after an opening
 unfoldable pub sent : Settings → ℕ → List SendMade
 sent s m =
     let opened : OpenedSender = openSenderOf s (replicate (senderLen s) 7) in
-    sends (opened .sender) (opened .rows) (table m (λ t. record { message = messageAt t; frame = replicate (frameLen s) 7 }))
+    sends (opened .sender) (opened .rows) (sendCalls s m)
 
 -- the frames that they hand out
 unfoldable pub framesOf : List SendMade → List (List ℕ)

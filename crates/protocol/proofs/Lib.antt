@@ -31,5 +31,4 @@ pub mod EarlyVerdict
 pub mod Recovery
 pub mod Demand
 pub mod Runs
-pub mod FigureTen
 pub mod QuickVerdict
