@@ -16,4 +16,3 @@ pub mod OwnColumns
 pub mod Terms
 pub mod Answers
 pub mod LaneDecided
-pub mod LaneRepaired
