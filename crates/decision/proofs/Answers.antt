@@ -13,8 +13,9 @@ use Rattle.code.specs.declared.settings.Settings.{Settings}
 use Rattle.elimination.specs.declared.lane.Symbol.the-variants as symbol
 use Rattle.elimination.specs.Elimination.{Reduced, combined, clashes, differs, symbolOf, knownIn}
 use Rattle.elimination.proofs.Answers.{symbol-clash, symbol-lost, symbol-whole}
-use Rattle.lanes.specs.Lanes.{Answer, laneByte, combinedLanes, lanesClash, lanesSaid}
-use Rattle.lanes.proofs.Clashes.{any-same}
+use Rattle.shares.specs.Shares.{laneByte}
+use Rattle.clashes.proofs.Unlike.{any-same}
+use Rattle.lanes.specs.Lanes.{Answer, combinedLanes, lanesClash, lanesSaid}
 use Rattle.lanes.proofs.Said.{answers, said-clash, said-lost, said-whole}
 use Rattle.protocol.specs.Verdict.{symbolSaid, isClash, isLost, wholeByte}
 use Rattle.decision.specs.Decision.{mark, lanesMark, Told}

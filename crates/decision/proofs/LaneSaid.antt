@@ -15,8 +15,8 @@ use Rattle.code.proofs.Shape.{shape}
 use Rattle.elimination.specs.Elimination.{symbolOf, knownIn, eliminated}
 use Rattle.elimination.specs.Values.{said}
 use Rattle.elimination.proofs.LaneDecided.{symbol-decided}
-use Rattle.lanes.specs.Lanes.{laneByte}
-use Rattle.lanes.proofs.Shares.{lane-inside}
+use Rattle.shares.specs.Shares.{laneByte}
+use Rattle.shares.proofs.Shares.{lane-inside}
 use Rattle.protocol.specs.Verdict.{rowAt, reportedAt, arrived, symbolSaid, wholeByte}
 use Rattle.places.specs.Places.{placesOf, knownFlag, flagsOf}
 use Rattle.places.proofs.Flags.{flag-at}

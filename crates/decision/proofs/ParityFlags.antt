@@ -19,7 +19,7 @@ use Rattle.elimination.proofs.LeftFlags.{source-solved, left-or-pivot, left-sou
 use Rattle.elimination.proofs.Reductions.{reduced-accepted, same-columns}
 use Rattle.elimination.proofs.Roles.{first-sixteen}
 use Rattle.elimination.proofs.Terms.{both}
-use Rattle.lanes.specs.Lanes.{ParityOnly}
+use Rattle.clashes.specs.Clashes.{ParityOnly}
 use Rattle.places.specs.Places.{parityFlags}
 use Rattle.places.proofs.Flags.{parity-length, at-parity, at-source}
 

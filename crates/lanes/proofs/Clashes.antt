@@ -1,80 +1,31 @@
 -- Clashes, position by position: some lane clashes exactly if at some known position the sums of all lanes are not the bytes.
-use mathlib.Core.Path.{_≡_, refl, sym, ap, ap₂, _∙_, subst, subst⁻¹}
-use mathlib.Core.Bool.{Bool, true, false, cond, not, _&&_, _||_}
+use mathlib.Core.Path.{_≡_, refl, sym, ap, _∙_, subst, subst⁻¹}
+use mathlib.Core.Bool.{Bool, true, false, cond, not, _&&_}
 use mathlib.Core.List.{List}
 use mathlib.Core.Logic.{_≢_}
-use Prim.Native.Nat.{ℕ, zero, suc, _+_, _≤_, _<_}
-use native.Mathlib.Numerals.{add-one}
+use Prim.Native.Nat.{ℕ, _<_}
 use native.Mathlib.Omega.{arith}
-use lib.Bits.{bitOr, or-zero-l, or-add-and, and-le-r}
-use lib.Dec.{T, eqb}
-use lib.ListN.{length, getD, take}
-use borrow.Author.Tests.{eq-eqb, ne-eqb, eqb-true, eqb-false}
+use lib.Dec.{T}
+use lib.ListN.{getD}
+use borrow.Author.Tests.{eq-eqb, ne-eqb, eqb-true}
 use Rattle.galois.specs.Bounded.{any}
-use Rattle.galois.specs.Byte.{_⊕_}
-use Rattle.galois.proofs.Xor.{plus-self, plus-cancel}
 use Rattle.galois.proofs.Cases.{is-true, and-left, and-right, both-pass, any-at, some-any, any-one, any-none}
-use Rattle.vectors.specs.Pairs.{weightedOf}
+use Rattle.gathering.specs.Pairs.{pairsOf}
+use Rattle.vectors.specs.Weighted.{weightedOf}
 use Rattle.code.specs.declared.settings.Settings.{Settings}
 use Rattle.code.specs.Settings.{kOf, nOf}
 use Rattle.code.proofs.Shape.{Shape}
 use Rattle.elimination.specs.Elimination.{Reduced, free, cell, combined, clashes, differs, knownIn}
 use Rattle.elimination.proofs.Terms.{freeDiffers}
-use Rattle.lanes.specs.Lanes.{laneByte, countOf, Own, sumClash, sumsClash, clashAt, lanesClash}
-use Rattle.lanes.proofs.Shares.{front-length, front-lane, Shared, weighted-combined}
-
--- two bytes differ
-abbrev pub unlike : ℕ → ℕ → Bool
-unlike a b = not (eqb a b)
+use Rattle.shares.specs.Shares.{laneByte}
+use Rattle.shares.proofs.Shares.{Shared}
+use Rattle.clashes.specs.Clashes.{sumClash, sumsClash}
+use Rattle.clashes.proofs.Unlike.{unlike, any-same}
+use Rattle.lanes.specs.Lanes.{Own, clashAt, lanesClash}
+use Rattle.lanes.proofs.Combined.{weighted-combined}
 
 pub unlike-differs : (a b : ℕ) → T (unlike a b) → a ≢ b
 unlike-differs a b t e = subst (λ (e : Bool). T (not e)) (eq-eqb a b e) t
-
-pub any-same : (m : ℕ) (f g : ℕ → Bool) → ((v : ℕ) → v < m → f v ≡ g v) → any m f ≡ any m g
-unfolding any
-any-same zero f g e = refl
-any-same (suc m) f g e = ap₂ _||_ (any-same m f g (λ v h. e v (omega arith))) (e m (omega arith))
-
--- ---- the bits in which runs of bytes differ
-
--- two bytes differ exactly if their sum is not 0
-sum-unlike : (a b : ℕ) → not (eqb (a ⊕ b) 0) ≡ unlike a b
-sum-unlike a b = go (eqb a b) refl
-  where
-    go : (t : Bool) → eqb a b ≡ t → not (eqb (a ⊕ b) 0) ≡ not t
-    go true e = ap not (eq-eqb (a ⊕ b) 0 (ap (λ (y : ℕ). a ⊕ y) (sym (eqb-true a b e)) ∙ plus-self a))
-    go false e = ap not (ne-eqb (a ⊕ b) 0 (λ z. eqb-false a b e (plus-cancel a b z)))
-
--- bits laid over bits are 0 only where both are
-or-some : (x y : ℕ) → x ≢ 0 → bitOr x y ≢ 0
-or-some x y ne z = ne (omega (arith, or-add-and x y, and-le-r x y))
-
-pub or-unlike : (x a b : ℕ) → not (eqb (bitOr x (a ⊕ b)) 0) ≡ not (eqb x 0) || unlike a b
-or-unlike x a b = go (eqb x 0) refl
-  where
-    go : (t : Bool) → eqb x 0 ≡ t → not (eqb (bitOr x (a ⊕ b)) 0) ≡ not t || unlike a b
-    go true e =
-        ap (λ (x : ℕ). not (eqb (bitOr x (a ⊕ b)) 0)) (eqb-true x 0 e) ∙ ap (λ (y : ℕ). not (eqb y 0)) (or-zero-l (a ⊕ b)) ∙ sum-unlike a b
-    go false e = ap not (ne-eqb (bitOr x (a ⊕ b)) 0 (or-some x (a ⊕ b) (eqb-false x 0 e)))
-
--- one more place
-pub any-more : (m : ℕ) (f : ℕ → Bool) → any m f || f m ≡ any (m + 1) f
-unfolding any
-any-more m f = rw add-one
-
--- ---- clashes
-
--- the weighted sums of all lanes at a position, held against its bytes
-pub sum-compared : (s : Settings) (rows : List (List ℕ)) (q : ℕ) (pairs : List (List ℕ)) (places bytes sums part : List ℕ) → s .lanes ≤ 64
-    → sums ≡ weightedOf rows q pairs (countOf s) → ((v : ℕ) → v < s .lanes → getD part v 0 ≡ laneByte s places bytes v q)
-    → any (length (take (s .lanes) sums)) (λ v. unlike (getD (take (s .lanes) sums) v 0) (getD part v 0)) ≡ sumClash s rows pairs places bytes q
-unfolding sumClash
-sum-compared s rows q pairs places bytes sums part few made here =
-    let front : List ℕ = take (s .lanes) sums in
-    ap (λ (m : ℕ). any m (λ v. unlike (getD front v 0) (getD part v 0))) (front-length s rows q pairs (countOf s) sums made few)
-    ∙ any-same (s .lanes) (λ v. unlike (getD front v 0) (getD part v 0))
-    (λ v. unlike (getD (weightedOf rows q pairs (countOf s)) v 0) (laneByte s places bytes v q))
-    (λ v lane. ap₂ unlike (front-lane s rows q pairs (countOf s) sums made few v lane) (here v lane))
 
 module _ (s : Settings) (x : Reduced) (flags places bytes : List ℕ) where
   -- at a known position
@@ -106,7 +57,7 @@ module _ (s : Settings) (x : Reduced) (flags places bytes : List ℕ) where
     clash-sum : (q : ℕ) → sumClash s (x .rows) pairs places bytes q ≡ clashAt s x places bytes q
     unfolding sumClash clashAt
     clash-sum q =
-        any-same (s .lanes) (λ v. unlike (getD (weightedOf (x .rows) q pairs (countOf s)) v 0) (laneByte s places bytes v q))
+        any-same (s .lanes) (λ v. unlike (getD (weightedOf (x .rows) q pairs (pairsOf (kOf s))) v 0) (laneByte s places bytes v q))
         (λ v. unlike (combined s x (laneByte s places bytes v) q) (laneByte s places bytes v q))
         (λ v lane. ap (λ (b : ℕ). unlike b (laneByte s places bytes v q)) (weighted-combined s x places bytes pairs h shared q v lane))
 

@@ -1,5 +1,4 @@
 -- The laws that the functions' proofs cite.
-pub mod Shares
-pub mod Gathering
+pub mod Combined
 pub mod Clashes
 pub mod Said

@@ -1,19 +1,19 @@
 // What elimination says of one symbol of all lanes at once.
-mod checks;
-mod sums;
 mod symbol;
 
-use checks::clashing;
-use checks::differing;
+use clashes::clashing;
+use clashes::differing;
 use code::Settings;
-use sums::gather;
+use shares::gather;
 use symbol::write_own;
 use symbol::write_sum;
 ghost use mathlib.Core.Path.{_≡_};
 ghost use Prim.Native.Nat.{_<_};
 ghost use lib.ListN.{length};
 ghost use Rattle.code.specs.Settings.{kOf};
-ghost use Rattle.lanes.specs.Lanes.{Held, ParityOnly, Own, lanesSaid};
+ghost use Rattle.shares.specs.Shares.{Held};
+ghost use Rattle.clashes.specs.Clashes.{ParityOnly};
+ghost use Rattle.lanes.specs.Lanes.{Own, lanesSaid};
 
 // What elimination says of position i, where no source has a flag: 2 if some lane clashes at a position whose flag is 1, else 1 if the
 // symbol is lost, else 0, and `out` gets the shared bytes. Of the codewords, received or not, `bytes` has symbol p of lane v at place p

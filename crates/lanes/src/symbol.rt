@@ -1,14 +1,15 @@
 // The bytes of a symbol that is whole: those that arrived, or the weighted sum of the vectors.
 use code::Settings;
-use vectors::weighted;
+use shares::sum_at;
 ghost use mathlib.Core.Path.{_≡_};
 ghost use Prim.Native.Nat.{_<_};
 ghost use lib.Dec.{T};
 ghost use lib.ListN.{length, getD};
 ghost use Rattle.galois.specs.Table.{table};
-ghost use Rattle.vectors.specs.Pairs.{Paired, weightedOf};
-ghost use Rattle.code.specs.Settings.{accepted, nOf};
-ghost use Rattle.lanes.specs.Lanes.{Held, countOf, laneByte};
+ghost use Rattle.gathering.specs.Pairs.{pairsOf, Paired};
+ghost use Rattle.vectors.specs.Weighted.{weightedOf};
+ghost use Rattle.code.specs.Settings.{accepted, kOf, nOf};
+ghost use Rattle.shares.specs.Shares.{Held, laneByte};
 
 // Copies bytes over as many.
 fn copy(out: &mut [u8], bytes: &[u8])
@@ -40,11 +41,11 @@ pub(crate) fn write_sum(
     i: usize,
     out: &mut [u8],
 )
-    requires { ⌜ T (accepted s) × Paired (countOf s) (now pairs) × (i < nOf s) × (length (now out) ≡ s .lanes) ⌝ }
+    requires { ⌜ T (accepted s) × Paired (pairsOf (kOf s)) (now pairs) × (i < nOf s) × (length (now out) ≡ s .lanes) ⌝ }
     ensures { λ _. ⌜ now (out .exit)
-        ≡ table (s .lanes) (λ v. getD (weightedOf (now (rows .entry)) i (now (pairs .entry)) (countOf s)) v 0) ⌝ }
+        ≡ table (s .lanes) (λ v. getD (weightedOf (now (rows .entry)) i (now (pairs .entry)) (pairsOf (kOf s))) v 0) ⌝ }
 {
-    let sum = weighted(rows, i, pairs, (s.sources() + 1) / 2);
+    let sum = sum_at(s, rows, pairs, i);
     let lanes = s.lanes as usize;
     copy(out, &sum[..lanes]);
 }

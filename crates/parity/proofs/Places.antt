@@ -7,7 +7,7 @@ use Rattle.code.specs.declared.settings.Settings.{Settings}
 use Rattle.code.specs.Settings.{kOf, nOf}
 use Rattle.code.proofs.Shape.{Shape}
 use Rattle.protocol.specs.Lengths.{messageLen, senderLen}
-use Rattle.parity.specs.Gathering.{rowOf}
+use Rattle.parity.specs.Sources.{rowOf}
 
 module _ (s : Settings) (h : Shape s) where
   pub message-few : messageLen s ≤ 1024

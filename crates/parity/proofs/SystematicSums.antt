@@ -10,6 +10,7 @@ use Rattle.galois.specs.Sum.{sum}
 use Rattle.galois.proofs.ByteProduct.{times-below, times-comm, times-zero, zero-times, one-times}
 use Rattle.galois.proofs.Xor.{plus-zero}
 use Rattle.galois.proofs.Sums.{sum-equal, sum-zeros, sum-single, sum-split, sum-below}
+use Rattle.gathering.specs.Pairs.{pairsOf}
 use Rattle.code.specs.declared.settings.Settings.{Settings}
 use Rattle.code.specs.Settings.{accepted, kOf}
 use Rattle.galois.specs.Table.{table}
@@ -19,7 +20,6 @@ use Rattle.galois.proofs.ByIndex.{getD-table}
 use Rattle.code.proofs.Words.{unit-self, unit-other, word-of-sum, word-equal}
 use Rattle.code.proofs.Symbols.{multiplier-below, symbol-source}
 use Rattle.code.proofs.Systematic.{unit-multiplier, unit-source, unit-outside, systematic-accepted}
-use Rattle.parity.specs.Gathering.{pairsOf}
 
 module _ (s : Settings) (h : Shape s) (x : ℕ → ℕ) (bytes : (r : ℕ) → x r < 256) where
   -- the sum of the units' words, each by its symbol
@@ -57,8 +57,7 @@ module _ (s : Settings) (h : Shape s) (x : ℕ → ℕ) (bytes : (r : ℕ) → x
 
   -- the rows from k on are zeros, so that a sum over whole pairs of rows is the symbol, whatever stands at k
   pub symbol-systematic : accepted s ≡ true → (y : ℕ → ℕ) → ((i : ℕ) → i < kOf s → y i ≡ x i) → (p : ℕ) → p < 16
-      → sum (pairsOf s * 2) (λ i. getD (getD (systematicOf s) i []) p 0 ⊗ y i) ≡ symbol s x p
-  unfolding pairsOf
+      → sum (pairsOf (kOf s) * 2) (λ i. getD (getD (systematicOf s) i []) p 0 ⊗ y i) ≡ symbol s x p
   symbol-systematic passed y same p hp =
       let term : ℕ → ℕ = λ i. getD (getD (systematicOf s) i []) p 0 ⊗ y i in
       let over : ℕ = (kOf s + 1) / 2 * 2 - kOf s in

@@ -1,3 +1,3 @@
 -- The source symbols that a parity symbol is the sum of, and the parity symbols of a frame.
-pub mod Gathering
+pub mod Sources
 pub mod Parities

@@ -1,10 +1,10 @@
 // The parity symbols of a frame: weighted sums of the source symbols that the sender's rows hold.
-mod gathering;
+mod sources;
 
 use code::Settings;
-use gathering::gather;
 use generator::systematic;
 use protocol::write_at;
+use sources::gather;
 use vectors::weighted;
 ghost use mathlib.Core.Path.{_≡_};
 ghost use Prim.Native.Nat.{_*_};

@@ -1,4 +1,3 @@
--- The laws of pairs and of weighted sums.
-pub mod PairLaws
+-- The laws of weighted sums.
 mod Halves
 pub mod Planes

@@ -18,7 +18,7 @@ use Rattle.galois.proofs.Cases.{equal, le-or-lt}
 use Rattle.galois.proofs.Extension.{weights-parts}
 use Rattle.galois.proofs.Sums.{sum-equal, sum-plus, multiple-of-sum, weights-equal}
 use Rattle.galois.proofs.Xor.{plus-assoc, plus-self, plus-zero, zero-plus}
-use Rattle.vectors.specs.Pairs.{vectorOf, Paired}
+use Rattle.gathering.specs.Pairs.{vectorOf, Paired}
 use Rattle.vectors.specs.Halves.{halfOf, halvesSum, Under}
 use Rattle.vectors.proofs.Halves.{fromBits, narrow-times}
 

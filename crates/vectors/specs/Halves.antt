@@ -5,7 +5,7 @@ use lib.ListN.{getD}
 use Rattle.galois.specs.Byte.{_⊗_}
 use Rattle.galois.specs.Sum.{sum}
 use Rattle.galois.specs.Table.{table}
-use Rattle.vectors.specs.Pairs.{vectorOf}
+use Rattle.gathering.specs.Pairs.{vectorOf}
 
 -- the half of vector i
 unfoldable pub halfOf : List ℕ → ℕ → ℕ

@@ -1,3 +1,3 @@
 -- What the contracts of the weighted sums cite.
-pub mod Pairs
+pub mod Weighted
 pub mod Halves

@@ -8,7 +8,8 @@ ghost use lib.ListN.{length, getD};
 ghost use Rattle.galois.specs.Byte.{_⊕_, _⊗_};
 ghost use Rattle.galois.specs.Sum.{sum};
 ghost use Rattle.galois.specs.Table.{table};
-ghost use Rattle.vectors.specs.Pairs.{Paired, vectorOf, weightedOf};
+ghost use Rattle.gathering.specs.Pairs.{Paired, vectorOf};
+ghost use Rattle.vectors.specs.Weighted.{weightedOf};
 ghost use Rattle.vectors.specs.Halves.{halfOf, halvesSum, Under};
 
 // z times each lane.

@@ -6,17 +6,18 @@ use Prim.Native.Nat.{ℕ, _<_}
 use native.Mathlib.Omega.{arith}
 use denote.Ref.{now}
 use lib.ListN.{getD}
-use Rattle.vectors.specs.Pairs.{Paired}
-use Rattle.vectors.proofs.PairLaws.{blank-wide}
+use Rattle.gathering.specs.Pairs.{pairsOf, Paired}
+use Rattle.gathering.proofs.PairLaws.{blank-wide}
+use Rattle.code.specs.Settings.{kOf}
 use Rattle.code.proofs.Shape.{Shape, shape}
 use Rattle.elimination.specs.Elimination.{Reduced}
 use Rattle.elimination.proofs.PivotSearch.{getD-default}
 use Rattle.elimination.proofs.Terms.{both}
-use Rattle.lanes.specs.Lanes.{countOf, lanesClash}
+use Rattle.shares.proofs.Shares.{all-paired, all-shared, Shared}
+use Rattle.lanes.specs.Lanes.{lanesClash}
 use Rattle.lanes.proofs.Clashes.{clash-sums, own-differs}
-use Rattle.lanes.proofs.Gathering.{all-paired, all-shared}
 use Rattle.lanes.proofs.Said.{answers, said-clash, said-lost, said-whole}
-use Rattle.lanes.proofs.Shares.{Shared, sums-combined, own-lanes}
+use Rattle.lanes.proofs.Combined.{sums-combined, own-lanes}
 use Rattle.lanes.proofs.answer.Statement.{statement}
 use Rattle.lanes.proofs.answer.Tie as tie
 
@@ -43,10 +44,10 @@ module _ (c : tie.After-gather) where
   small q = c .before .before .before .shared-slice-known .given q .fits
 
   -- it is one of pairs, and holds the bytes at the pivots' positions
-  paired : Paired (countOf (start .args .s)) pairs
+  paired : Paired (pairsOf (kOf (start .args .s))) pairs
   paired =
       let a = start .args in
-      subst⁻¹ (Paired (countOf (a .s))) (c .gather .ensures) (all-paired (a .s) (now (a .roles)) (now (a .places)) (now (a .bytes)) shaped)
+      subst⁻¹ (Paired (pairsOf (kOf (a .s)))) (c .gather .ensures) (all-paired (a .s) (now (a .roles)) (now (a .places)) (now (a .bytes)) shaped)
 
   shared : let a = start .args in
       Shared (a .s) (now (a .roles)) (now (a .places)) (now (a .bytes)) pairs

@@ -9,13 +9,15 @@ use denote.Ref.{now}
 use lib.ListN.{length, take, drop}
 use lib.Seq.{length-take-le}
 use Rattle.galois.proofs.Cases.{is-true}
-use Rattle.vectors.specs.Pairs.{Wide, Paired, weightedOf}
-use Rattle.vectors.proofs.PairLaws.{blank-wide, blank-paired}
+use Rattle.gathering.specs.Pairs.{pairsOf, Wide, Paired, gatheredOf}
+use Rattle.gathering.proofs.PairLaws.{blank-wide, blank-paired}
+use Rattle.gathering.proofs.Gathered.{gathered-wide, gathered-paired}
+use Rattle.vectors.specs.Weighted.{weightedOf}
 use Rattle.code.specs.Settings.{kOf, nOf}
 use Rattle.code.proofs.Shape.{Shape, shape}
-use Rattle.parity.specs.Gathering.{pairsOf, gatheredOf}
+use Rattle.parity.specs.Sources.{sourceOf}
 use Rattle.parity.specs.Parities.{parityOf, paritiesOf}
-use Rattle.parity.proofs.Gathered.{pairs-few, gathered-wide, gathered-paired, parity-symbols}
+use Rattle.parity.proofs.Gathered.{parity-symbols}
 use Rattle.parity.proofs.Parities.{parities-more, parities-all}
 use Rattle.parity.proofs.write_parities.Statement.{statement}
 use Rattle.parity.proofs.write_parities.Tie as tie
@@ -23,7 +25,7 @@ use Rattle.parity.proofs.write_parities.Tie as tie
 abbrev Inv-loop : tie.InvT-loop
 Inv-loop out₀ rows s due form lanes count pairs₀ e₀ out pairs e =
     (e ≤ s .burst) × (length out ≡ s .burst * s .lanes) × (out ≡ paritiesOf s rows due e ++ drop (e * s .lanes) out₀)
-    × Wide pairs × Paired (pairsOf s) pairs
+    × Wide pairs × Paired (pairsOf (kOf s)) pairs
 
 abbrev μ-loop : tie.MeasureT-loop
 μ-loop out₀ rows s due form lanes count pairs₀ e₀ out pairs e = s .burst - e
@@ -36,12 +38,11 @@ module _ (c : tie.After-sources Inv-loop μ-loop) where
   shaped = shape (start c .args .s) (start c .pre .0)
 
   -- the count of pairs
-  is-count : (c .sources .result + 1) / 2 ≡ pairsOf (start c .args .s)
-  unfolding pairsOf
+  is-count : (c .sources .result + 1) / 2 ≡ pairsOf (kOf (start c .args .s))
   is-count = ap (λ (k : ℕ). (k + 1) / 2) (c .sources .ensures)
 
-  count-few : pairsOf (start c .args .s) ≤ 8
-  count-few = pairs-few (start c .args .s) shaped
+  count-few : pairsOf (kOf (start c .args .s)) ≤ 8
+  count-few = let h = shaped in omega arith
 
 loop-holds : tie.Need-loop-holds Inv-loop μ-loop
 unfolding paritiesOf
@@ -51,7 +52,7 @@ loop-holds c =
       start c .pre .2,
       sym (ap (λ (n : ℕ). drop n (now (start c .args .out))) (zero-mul (s .lanes))),
       blank-wide,
-      blank-paired (pairsOf s) (count-few c),
+      blank-paired (pairsOf (kOf s)) (count-few c),
     )
 
 -- a turn
@@ -99,17 +100,19 @@ module _ (c : tie.After-gather Inv-loop μ-loop) where
       let a = from turn .args in
       let at = at-loop turn .loop in
       subst⁻¹ Wide (c .gather .ensures)
-      (gathered-wide (a .s) (now (a .rows)) (a .due) (turn .sources2 .result + e turn) (at .pairs) (shaped (entered turn)) (at .inv .3) (pairsOf (a .s))
+      (gathered-wide (now (a .rows)) (a .s .lanes) (sourceOf (a .s) (a .due) (turn .sources2 .result + e turn)) (at .pairs)
+      (shaped (entered turn) .lanes-few) (at .inv .3) (pairsOf (kOf (a .s)))
       (count-few (entered turn)))
 
   -- and is a table of pairs
-  paired : Paired (pairsOf (from turn .args .s)) (c .gather .last .0)
+  paired : Paired (pairsOf (kOf (from turn .args .s))) (c .gather .last .0)
   paired =
       let a = from turn .args in
       let at = at-loop turn .loop in
-      subst⁻¹ (Paired (pairsOf (a .s))) (c .gather .ensures)
-      (gathered-paired (a .s) (now (a .rows)) (a .due) (turn .sources2 .result + e turn) (at .pairs) (shaped (entered turn)) (at .inv .3) (pairsOf (a .s))
-      (pairsOf (a .s)) (count-few (entered turn)) (at .inv .4))
+      subst⁻¹ (Paired (pairsOf (kOf (a .s)))) (c .gather .ensures)
+      (gathered-paired (now (a .rows)) (a .s .lanes) (sourceOf (a .s) (a .due) (turn .sources2 .result + e turn)) (at .pairs)
+      (shaped (entered turn) .lanes-few) (at .inv .3) (pairsOf (kOf (a .s)))
+      (pairsOf (kOf (a .s))) (count-few (entered turn)) (at .inv .4))
 
 gather-requires : tie.Need-gather-requires Inv-loop μ-loop
 gather-requires c κs =
@@ -156,7 +159,7 @@ module _ (c : tie.After-weighted Inv-loop μ-loop) where
       ap (take lanes)
       (c .weighted .ensures
       ∙ ap₂ (λ (l : List (List ℕ)) (m : ℕ). weightedOf (counted .before .before .systematic .result) p l m) (summed .gather .ensures) (is-count counted)
-      ∙ ap (λ (form : List (List ℕ)). weightedOf form p (gatheredOf (a .s) (now (a .rows)) (a .due) p (pairsOf (a .s)) pairs) (pairsOf (a .s)))
+      ∙ ap (λ (form : List (List ℕ)). weightedOf form p (gatheredOf (now (a .rows)) (a .s .lanes) (sourceOf (a .s) (a .due) p) (pairsOf (kOf (a .s))) pairs) (pairsOf (kOf (a .s))))
       (counted .before .before .systematic .ensures))
       ∙ parity-symbols (a .s) (now (a .rows)) (a .due) p pairs (shaped counted) (at-loop at .loop .inv .3)
       (λ q. counted .before .before .before .shared-slice-known .given q .fits) (omega (arith, is-position at)) (within at)

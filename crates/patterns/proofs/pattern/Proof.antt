@@ -20,7 +20,8 @@ use Rattle.elimination.proofs.LeftFlags.{left-source}
 use Rattle.elimination.proofs.OwnColumns.{own-reduced}
 use Rattle.elimination.proofs.Reductions.{reduced-accepted, same-columns, systematic-reduced, reduced-roles}
 use Rattle.elimination.proofs.Terms.{both}
-use Rattle.lanes.specs.Lanes.{ParityOnly, Own}
+use Rattle.clashes.specs.Clashes.{ParityOnly}
+use Rattle.lanes.specs.Lanes.{Own}
 use Rattle.patterns.proofs.pattern.Statement.{statement}
 use Rattle.patterns.proofs.pattern.Tie as tie
 

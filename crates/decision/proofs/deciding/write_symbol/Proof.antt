@@ -12,7 +12,9 @@ use Rattle.elimination.proofs.OwnColumns.{own-reduced}
 use Rattle.elimination.proofs.Reductions.{eliminated-reduced, reduced-roles}
 use Rattle.elimination.proofs.Roles.{first-sixteen}
 use Rattle.elimination.proofs.Terms.{both}
-use Rattle.lanes.specs.Lanes.{ParityOnly, Own, laneByte, lanesSaid}
+use Rattle.shares.specs.Shares.{laneByte}
+use Rattle.clashes.specs.Clashes.{ParityOnly}
+use Rattle.lanes.specs.Lanes.{Own, lanesSaid}
 use Rattle.places.specs.Places.{placesOf, flagsOf}
 use Rattle.places.proofs.Places.{place-inside}
 use Rattle.decision.proofs.LaneSaid.{lane-below, flag-cases, lane-said}

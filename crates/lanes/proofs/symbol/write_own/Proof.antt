@@ -6,7 +6,7 @@ use native.Mathlib.Omega.{arith}
 use denote.Ref.{now}
 use lib.ListN.{length, getD}
 use Rattle.code.proofs.Shape.{shape}
-use Rattle.lanes.proofs.Shares.{part-table}
+use Rattle.shares.proofs.Shares.{part-table}
 use Rattle.lanes.proofs.symbol.write_own.Statement.{statement}
 use Rattle.lanes.proofs.symbol.write_own.Tie as tie
 

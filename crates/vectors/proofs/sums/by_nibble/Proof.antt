@@ -8,7 +8,7 @@ use lib.ListN.{length, getD}
 use Rattle.galois.specs.Byte.{_⊕_, _⊗_}
 use Rattle.galois.specs.Sum.{sum}
 use Rattle.galois.proofs.ByIndex.{length-table, table-equal}
-use Rattle.vectors.specs.Pairs.{vectorOf}
+use Rattle.gathering.specs.Pairs.{vectorOf}
 use Rattle.vectors.specs.Halves.{halfOf, halvesSum}
 use Rattle.vectors.proofs.Planes.{termAt, four-planes, by-four-bits}
 use Rattle.vectors.proofs.sums.by_nibble.Statement.{statement}

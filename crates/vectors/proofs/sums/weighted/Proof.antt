@@ -10,7 +10,8 @@ use lib.ListN.{length, getD, length-set}
 use Rattle.galois.specs.Byte.{_⊕_, _⊗_, alpha}
 use Rattle.galois.specs.Sum.{sum}
 use Rattle.galois.proofs.ByIndex.{is-table, filled-more}
-use Rattle.vectors.specs.Pairs.{vectorOf, weightedOf}
+use Rattle.gathering.specs.Pairs.{vectorOf}
+use Rattle.vectors.specs.Weighted.{weightedOf}
 use Rattle.vectors.specs.Halves.{halfOf, halvesSum}
 use Rattle.vectors.proofs.Planes.{lane-of, by-both-halves}
 use Rattle.vectors.proofs.sums.weighted.Statement.{statement}

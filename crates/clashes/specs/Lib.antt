@@ -1,0 +1,2 @@
+-- What clashes, by the sums of all lanes.
+pub mod Clashes

@@ -1,0 +1,2 @@
+-- What the contracts over a table of pairs cite.
+pub mod Pairs

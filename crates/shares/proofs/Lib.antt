@@ -1,0 +1,2 @@
+-- The laws of the bytes at the pivots' positions.
+pub mod Shares

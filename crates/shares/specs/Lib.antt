@@ -1,0 +1,2 @@
+-- The bytes that stand at the pivots' positions.
+pub mod Shares
