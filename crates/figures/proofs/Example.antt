@@ -18,7 +18,7 @@ use Rattle.numbers.specs.Digits.{decimal, decimalUpTo}
 use Rattle.lines.specs.Text.{stopLine, lineOf}
 use Rattle.frames.specs.Fields.{settingsAt, slotAt, settingsIn, slotIn}
 use Rattle.stops.specs.Stops.{recordingCause, frameStop}
-use Rattle.steps.specs.Steps.{refuses}
+use Rattle.progress.specs.Refusal.{refuses}
 use Rattle.player.specs.Transcript.{Rest, andThen, skipped, played, pieces, playedFrom, transcript}
 use Rattle.figures.proofs.Computing.{computing}
 

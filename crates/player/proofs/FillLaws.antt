@@ -10,7 +10,7 @@ use lib.Seq.{take-all, take-at, drop-at, drop-drop, length-take-le}
 use borrow.Rule.Slice.PartMut.{putMid}
 use Rattle.lines.specs.Text.{written}
 use Rattle.lines.specs.Lent.{longest}
-use Rattle.steps.specs.declared.Player.{Player}
+use Rattle.progress.specs.declared.Player.{Player}
 use Rattle.steps.specs.Steps.{Act, actOf}
 use Rattle.steps.specs.Outcomes.{Outcome, printedOn}
 use Rattle.player.specs.Filling.{noAct, after, gathered, filledOf}

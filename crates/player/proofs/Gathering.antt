@@ -8,7 +8,7 @@ use lib.Dec.{ltb}
 use lib.ListN.{length}
 use borrow.Author.Tests.{lt-ltb, le-ltb, ltb-true, ltb-false}
 use Rattle.lines.specs.Lent.{longest}
-use Rattle.steps.specs.declared.Player.{Player}
+use Rattle.progress.specs.declared.Player.{Player}
 use Rattle.steps.specs.Steps.{Act, actOf}
 use Rattle.player.specs.Filling.{noAct, after, stepsWithin, enoughSteps, gathered}
 use Rattle.player.proofs.StepsLeft.{stepsLeft, few-left, fewer}

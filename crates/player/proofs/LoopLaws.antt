@@ -12,7 +12,7 @@ use Rattle.code.specs.Settings.{accepted}
 use Rattle.code.proofs.Shape.{shape}
 use Rattle.protocol.specs.Lengths.{messageLen, bodyLen, rowLen, rowCount, receiverLen}
 use Rattle.lines.specs.Lent.{longest}
-use Rattle.steps.specs.declared.Player.{Player}
+use Rattle.progress.specs.declared.Player.{Player}
 use Rattle.steps.specs.Outcomes.{printedOn}
 use Rattle.player.specs.Filling.{gathered, filledOf}
 use Rattle.player.proofs.FillLaws.{print-fits}

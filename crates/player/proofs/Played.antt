@@ -16,7 +16,7 @@ use Rattle.stops.specs.declared.Start.the-variants.{Play}
 use Rattle.frames.specs.Fields.{settingsIn}
 use Rattle.stops.specs.Stops.{recordingCause, startOf}
 use Rattle.stops.proofs.StartLaws.{passed}
-use Rattle.steps.specs.declared.Player.{Player}
+use Rattle.progress.specs.declared.Player.{Player}
 use Rattle.steps.specs.Steps.{beginOf, Act}
 use Rattle.steps.specs.Outcomes.{printedOn}
 use Rattle.player.specs.Transcript.{playedFrom, transcript}

@@ -20,8 +20,9 @@ use Rattle.protocol.proofs.CauseTables.{open-clear}
 use Rattle.frames.specs.Fields.{slotIn}
 use Rattle.stops.specs.Stops.{frameStop}
 use Rattle.stops.proofs.StopLaws.{passing-stop, passing-onward}
-use Rattle.steps.specs.declared.Player.{Player}
-use Rattle.steps.specs.Steps.{refuses, beginOf, Act, endAct, stopAct, reportAct, actOf}
+use Rattle.progress.specs.declared.Player.{Player}
+use Rattle.progress.specs.Refusal.{refuses}
+use Rattle.steps.specs.Steps.{beginOf, Act, endAct, stopAct, reportAct, actOf}
 use Rattle.steps.proofs.Acts.{loss-onward, heard-onward, playerAt, act-end, act-stop, act-loss, act-heard}
 use Rattle.player.specs.Transcript.{pieces, Rest, andThen, skipped, played, playedFrom}
 

@@ -12,7 +12,7 @@ use Rattle.protocol.specs.Calls.{Reported, lossOf, heardOf}
 use Rattle.frames.specs.Fields.{slotIn}
 use Rattle.stops.specs.Stops.{frameStop}
 use Rattle.stops.proofs.StopLaws.{stop-passing}
-use Rattle.steps.specs.declared.Player.{Player}
+use Rattle.progress.specs.declared.Player.{Player}
 use Rattle.steps.specs.Steps.{Act, endAct, stopAct, reportAct, actOf}
 use Rattle.steps.proofs.Acts.{frame-some, loss-onward, frameAt, every-act}
 use Rattle.player.specs.Filling.{enoughSteps}

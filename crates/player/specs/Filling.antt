@@ -5,7 +5,7 @@ use Prim.Native.Nat.{ℕ, zero, suc, _+_, _-_, _*_}
 use lib.Dec.{ltb}
 use lib.ListN.{length}
 use Rattle.lines.specs.Lent.{longest}
-use Rattle.steps.specs.declared.Player.{Player}
+use Rattle.progress.specs.declared.Player.{Player}
 use Rattle.steps.specs.Steps.{Act, actOf}
 use Rattle.steps.specs.Outcomes.{Outcome, printedOn}
 

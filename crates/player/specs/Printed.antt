@@ -11,7 +11,7 @@ use Rattle.lines.specs.Text.{stopLine}
 use Rattle.lines.specs.Lent.{longest}
 use Rattle.stops.specs.declared.Start.the-variants.{Empty, Stop, Play}
 use Rattle.stops.specs.Stops.{startOf}
-use Rattle.steps.specs.declared.Player.{Player}
+use Rattle.progress.specs.declared.Player.{Player}
 use Rattle.steps.specs.Steps.{Begun, beginOf}
 use Rattle.steps.specs.Outcomes.{Outcome}
 use Rattle.player.specs.Transcript.{transcript}

@@ -12,7 +12,7 @@ use Rattle.protocol.specs.Calls.{OpenedReceiver, openReceiverOf, Reported, mess
 use Rattle.lines.specs.Text.{stopLine, lineOf}
 use Rattle.frames.specs.Fields.{settingsIn, slotIn}
 use Rattle.stops.specs.Stops.{recordingCause, frameStop}
-use Rattle.steps.specs.Steps.{refuses}
+use Rattle.progress.specs.Refusal.{refuses}
 
 -- ---- the frames
 

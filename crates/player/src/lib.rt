@@ -1,7 +1,7 @@
 // Playing a recording: a lent buffer is filled with the lines of steps, one after another. Document 01, "Playing a recording".
 use lines::has_room;
-use steps::Player;
-use steps::Progress;
+use progress::Player;
+use progress::Progress;
 use steps::step;
 ghost use mathlib.Core.Path.{_≡_};
 ghost use Rattle.steps.specs.Outcomes.{outcome};

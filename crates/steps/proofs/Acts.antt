@@ -23,8 +23,9 @@ use Rattle.recording.specs.Found.{foundAt}
 use Rattle.recording.proofs.FoundLaws.{end-stands, frame-stands, Standing, standing}
 use Rattle.frames.specs.Fields.{slotIn}
 use Rattle.stops.specs.Stops.{frameStop}
-use Rattle.steps.specs.declared.Player.{Player}
-use Rattle.steps.specs.Steps.{refuses, Act, endAct, stopAct, reportAct, frameAct, actOf}
+use Rattle.progress.specs.declared.Player.{Player}
+use Rattle.progress.specs.Refusal.{refuses}
+use Rattle.steps.specs.Steps.{Act, endAct, stopAct, reportAct, frameAct, actOf}
 
 -- a frame has at least its header
 pub frame-some : (s : Settings) → 0 < frameLen s

@@ -19,8 +19,9 @@ use Rattle.recording.specs.Found.{foundAt}
 use Rattle.lines.specs.Text.{stopLine, lineOf, written}
 use Rattle.frames.specs.Fields.{slotIn}
 use Rattle.stops.specs.Stops.{frameStop}
-use Rattle.steps.specs.declared.Player.{Player}
-use Rattle.steps.specs.Steps.{refuses, Act, endAct, stopAct, reportAct, frameAct, actOf}
+use Rattle.progress.specs.declared.Player.{Player}
+use Rattle.progress.specs.Refusal.{refuses}
+use Rattle.steps.specs.Steps.{Act, endAct, stopAct, reportAct, frameAct, actOf}
 use Rattle.steps.specs.Outcomes.{printedOn}
 
 -- ---- at a frame

@@ -4,8 +4,8 @@ use mathlib.Core.List.{List}
 use Prim.Native.Nat.{ℕ}
 use lib.ListN.{length}
 use Rattle.lines.specs.Text.{written}
-use Rattle.steps.specs.declared.Player.{Player}
-use Rattle.steps.specs.declared.Progress.{Progress}
+use Rattle.progress.specs.declared.Player.{Player}
+use Rattle.progress.specs.declared.Progress.{Progress}
 use Rattle.steps.specs.Steps.{Act}
 
 -- how far playing on came, and every lent list after it

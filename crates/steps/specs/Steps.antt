@@ -1,5 +1,5 @@
 -- Playing in steps: how a player begins, and one step as a function of the player, its rows and its message buffer.
-use mathlib.Core.Bool.{Bool, true, false, not}
+use mathlib.Core.Bool.{Bool, true, false}
 use mathlib.Core.List.{List, []}
 use Prim.Native.Nat.{ℕ, _-_}
 use lib.Dec.{ltb}
@@ -8,17 +8,16 @@ use Rattle.code.specs.declared.settings.Settings.{Settings}
 use Rattle.protocol.specs.declared.Receiver.{Receiver}
 use Rattle.protocol.specs.declared.Cause.{Cause}
 use Rattle.protocol.specs.declared.Cause.the-variants.{BadLength}
-use Rattle.protocol.specs.declared.Reply.{Reply}
 use Rattle.protocol.specs.Lengths.{frameLen}
 use Rattle.protocol.specs.declared.Answer.the-variants as answer
-use Rattle.protocol.specs.Claim.{accepts}
 use Rattle.protocol.specs.Calls.{openReceiverOf, Reported, messageDue, lossOf, heardOf}
 use Rattle.recording.specs.declared.Found.the-variants.{Frame, Part, End}
 use Rattle.recording.specs.Found.{foundAt}
 use Rattle.lines.specs.Text.{stopLine, lineOf}
 use Rattle.frames.specs.Fields.{slotIn}
 use Rattle.stops.specs.Stops.{frameStop}
-use Rattle.steps.specs.declared.Player.{Player}
+use Rattle.progress.specs.declared.Player.{Player}
+use Rattle.progress.specs.Refusal.{refuses}
 
 -- ---- the start
 
@@ -37,10 +36,6 @@ beginOf s rows message =
     }
 
 -- ---- a step
-
--- whether a report was refused
-abbrev pub refuses : Reply → Bool
-refuses r = not (accepts r)
 
 -- what a step prints, what it leaves, and whether it is the last
 pub record Act : Type 0 where

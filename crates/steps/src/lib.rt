@@ -1,19 +1,18 @@
 // The steps of a player: each makes one report, and writes at most one line over the start of a lent one. Document 01, "Playing a
 // recording".
-mod telling;
-
 use code::Settings;
 use frames::slot_of;
+use progress::Player;
+use progress::Progress;
+use progress::stopped;
+use progress::told;
 use protocol::Answer;
 use protocol::Cause;
-use protocol::Receiver;
 use protocol::clear;
 use protocol::frame_len;
 use recording::Found;
 use recording::next_frame;
 use stops::stop_of;
-use telling::stopped;
-use telling::told;
 use terminal::report_kept;
 ghost use mathlib.Core.Bool.{cond};
 ghost use mathlib.Core.Path.{_≡_};
@@ -21,20 +20,6 @@ ghost use Prim.Native.Nat.{_+_, _*_, _≤_};
 ghost use lib.ListN.{length};
 ghost use Rattle.steps.specs.Steps.{beginOf, frameAct, actOf};
 ghost use Rattle.steps.specs.Outcomes.{outcome, printedOn};
-
-// What a player keeps between two steps: the receiver, and where in the recording the next frame starts.
-pub struct Player {
-    pub receiver: Receiver,
-    pub offset: usize,
-}
-
-// How far playing on came: the player as it is then, and how many bytes of the lent buffer are printed, from its first on.
-pub struct Progress {
-    pub player: Player,
-    pub len: usize,
-    // The recording is played, or a refusal has ended it.
-    pub over: bool,
-}
 
 // A player at the start of a recording with these settings.
 pub fn begin(s: Settings, rows: &mut [u8], message: &mut [u8]) -> Player

@@ -1,8 +1,8 @@
 -- Each reply is a refusal, or none.
 use borrow.Author.Needs.{needs}
 use mathlib.Core.Path.{refl}
-use Rattle.steps.proofs.telling.refused.Statement.{statement}
-use Rattle.steps.proofs.telling.refused.Tie as tie
+use Rattle.progress.proofs.refused.Statement.{statement}
+use Rattle.progress.proofs.refused.Tie as tie
 
 returns : tie.Need-returns
 returns c = rw (c .enum-told .given .1) refl

@@ -4,8 +4,8 @@ use mathlib.Core.Path.{refl}
 use native.Mathlib.Omega.{arith}
 use denote.Ref.{now}
 use Rattle.lines.proofs.LentLines.{stop-parts}
-use Rattle.steps.proofs.telling.stopped.Statement.{statement}
-use Rattle.steps.proofs.telling.stopped.Tie as tie
+use Rattle.progress.proofs.stopped.Statement.{statement}
+use Rattle.progress.proofs.stopped.Tie as tie
 
 returns : tie.Need-returns
 returns c =

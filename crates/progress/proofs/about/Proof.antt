@@ -2,8 +2,8 @@
 use borrow.Author.Needs.{needs}
 use native.Mathlib.Omega.{arith}
 use Rattle.protocol.specs.Calls.{messageDue}
-use Rattle.steps.proofs.telling.about.Statement.{statement}
-use Rattle.steps.proofs.telling.about.Tie as tie
+use Rattle.progress.proofs.about.Statement.{statement}
+use Rattle.progress.proofs.about.Tie as tie
 
 returns : tie.Need-returns
 unfolding messageDue

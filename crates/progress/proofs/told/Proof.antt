@@ -7,8 +7,8 @@ use lib.ListN.{length}
 use Rattle.lines.specs.Text.{lineOf, written}
 use Rattle.lines.specs.Lent.{longest}
 use Rattle.lines.proofs.LentLines.{line-parts}
-use Rattle.steps.proofs.telling.told.Statement.{statement}
-use Rattle.steps.proofs.telling.told.Tie as tie
+use Rattle.progress.proofs.told.Statement.{statement}
+use Rattle.progress.proofs.told.Tie as tie
 
 returns : tie.Need-returns
 unfolding longest

@@ -1,6 +1,4 @@
-// What a step tells: the line of a refusal, or that of a report.
-use crate::Player;
-use crate::Progress;
+// How far a player is: what it keeps between two steps, and what a step tells on a lent line, a refusal or a report.
 use lines::write_line;
 use lines::write_stop;
 use protocol::Cause;
@@ -13,7 +11,21 @@ ghost use Prim.Native.Nat.{_+_, _*_, _≤_};
 ghost use lib.ListN.{length};
 ghost use Rattle.protocol.specs.Calls.{messageDue};
 ghost use Rattle.lines.specs.Text.{stopLine, lineOf, written};
-ghost use Rattle.steps.specs.Steps.{refuses};
+ghost use Rattle.progress.specs.Refusal.{refuses};
+
+// What a player keeps between two steps: the receiver, and where in the recording the next frame starts.
+pub struct Player {
+    pub receiver: Receiver,
+    pub offset: usize,
+}
+
+// How far playing on came: the player as it is then, and how many bytes of the lent buffer are printed, from its first on.
+pub struct Progress {
+    pub player: Player,
+    pub len: usize,
+    // The recording is played, or a refusal has ended it.
+    pub over: bool,
+}
 
 // The message that the report of the slot due tells of, if there is one.
 fn about(x: Receiver) -> u32
@@ -41,7 +53,7 @@ fn refused(r: Reply) -> bool
 }
 
 // A refusal is the last step.
-pub(crate) fn stopped(p: Player, c: Cause, line: &mut [u8]) -> Progress
+pub fn stopped(p: Player, c: Cause, line: &mut [u8]) -> Progress
     requires { ⌜ 18 ≤ length (now line) ⌝ }
     ensures { λ r. ⌜
         (r .player ≡ p)
@@ -59,13 +71,7 @@ pub(crate) fn stopped(p: Player, c: Cause, line: &mut [u8]) -> Progress
 }
 
 // A report by this receiver, told on the line; the next frame starts at the offset, and a refused report is the last.
-pub(crate) fn told(
-    x: Receiver,
-    offset: usize,
-    r: Reported,
-    message: &[u8],
-    line: &mut [u8],
-) -> Progress
+pub fn told(x: Receiver, offset: usize, r: Reported, message: &[u8], line: &mut [u8]) -> Progress
     requires { ⌜ 18 + 2 * length (now message) ≤ length (now line) ⌝ }
     ensures { λ q. ⌜
         (q .player ≡ record { receiver = r .receiver; offset = offset })
