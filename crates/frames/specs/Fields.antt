@@ -34,12 +34,12 @@ settingsIn frame = settingsAt 5 frame
 abbrev pub slotIn : List ℕ → ℕ
 slotIn frame = slotAt 10 frame
 
--- for these settings it meets 4 and 5
-abbrev pub headerTable : Settings → List ℕ → List Row
-headerTable s frame =
-    row (not (agree 5 frame (mark 1))) OtherMark
+-- for this version and these settings it meets 4 and 5
+abbrev pub headerTable : ℕ → Settings → List ℕ → List Row
+headerTable version s frame =
+    row (not (agree 5 frame (mark version))) OtherMark
     ∷ row (not (agree 5 (drop 5 frame) (five s))) OtherSettings
     ∷ []
 
-unfoldable pub headerCause : Settings → List ℕ → Answer
-headerCause s frame = firstOf (headerTable s frame)
+unfoldable pub headerCause : ℕ → Settings → List ℕ → Answer
+headerCause version s frame = firstOf (headerTable version s frame)

@@ -51,12 +51,12 @@ pub fn slot_of(frame: &[u8]) -> u32
     slot_at(frame, 10)
 }
 
-// The first of causes 4 and 5 that a frame meets for these settings, if there is one.
-pub fn header_cause(s: Settings, frame: &[u8]) -> Answer
+// The first of causes 4 and 5 that a frame meets for this version and these settings, if there is one.
+pub fn header_cause(version: u16, s: Settings, frame: &[u8]) -> Answer
     requires { ⌜ 14 ≤ length (now frame) ⌝ }
-    ensures { λ r. ⌜ r ≡ headerCause s (now (frame .entry)) ⌝ }
+    ensures { λ r. ⌜ r ≡ headerCause version s (now (frame .entry)) ⌝ }
 {
-    let head = header_bytes(1, s, 0);
+    let head = header_bytes(version, s, 0);
     if !agrees(frame, head, 0, 5) {
         return Answer::Refused(Cause::OtherMark);
     }

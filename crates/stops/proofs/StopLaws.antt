@@ -29,14 +29,14 @@ both-clear (Refused c) b e = let z : _≡_ {A = ℕ} 0 1 = cc in absurd (omega a
 
 module _ (x : Receiver) (frame : List ℕ) where
   -- the header's causes come first
-  by : frameStop x frame ≡ followedBy (headerCause (x .settings) frame) (firstOf (gapTable x frame))
+  by : frameStop x frame ≡ followedBy (headerCause 1 (x .settings) frame) (firstOf (gapTable x frame))
   unfolding frameStop headerCause
-  by = one-below (headerTable (x .settings) frame) (gapTable x frame)
+  by = one-below (headerTable 1 (x .settings) frame) (gapTable x frame)
 
-  pub stop-header : (c : Cause) → headerCause (x .settings) frame ≡ Refused c → Refused c ≡ frameStop x frame
+  pub stop-header : (c : Cause) → headerCause 1 (x .settings) frame ≡ Refused c → Refused c ≡ frameStop x frame
   stop-header c e = rw (by, e)
 
-  module _ (own : headerCause (x .settings) frame ≡ Accepted) where
+  module _ (own : headerCause 1 (x .settings) frame ≡ Accepted) where
     pub stop-below : slotIn frame < x .due → Refused OtherSlot ≡ frameStop x frame
     stop-below h = rw (by, own, lt-ltb (slotIn frame) (x .due) h)
 
@@ -51,7 +51,7 @@ module _ (x : Receiver) (frame : List ℕ) where
 
 -- its mark and settings are the receiver's, and its slot isn't too low or too high
 pub record Passing (x : Receiver) (frame : List ℕ) : Type 0 where
-  pub own : headerCause (x .settings) frame ≡ Accepted
+  pub own : headerCause 1 (x .settings) frame ≡ Accepted
   pub low : x .due ≤ slotIn frame
   pub high : slotIn frame ≤ x .due + 4095
 
@@ -61,7 +61,7 @@ module _ (x : Receiver) (frame : List ℕ) where
   stop-passing e =
       let low : Bool = ltb (slotIn frame) (x .due) in
       let high : Bool = ltb (x .due + 4095) (slotIn frame) in
-      let a = both-clear (headerCause (x .settings) frame) (firstOf (gapTable x frame)) (rw (by x frame) at e) in
+      let a = both-clear (headerCause 1 (x .settings) frame) (firstOf (gapTable x frame)) (rw (by x frame) at e) in
       let b = neither low high (check-clear (low || high) OtherSlot Accepted (a .1) .0) in
       record { own = a .0; low = ltb-false (slotIn frame) (x .due) (b .0); high = ltb-false (x .due + 4095) (slotIn frame) (b .1) }
 

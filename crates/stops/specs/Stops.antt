@@ -49,4 +49,4 @@ gapTable x frame = row (ltb (slotIn frame) (x .due) || ltb (x .due + 4095) (slot
 
 -- a frame meets 4 and 5 in the table's order, and then 6
 unfoldable pub frameStop : Receiver → List ℕ → Answer
-frameStop x frame = firstOf (headerTable (x .settings) frame ++ gapTable x frame)
+frameStop x frame = firstOf (headerTable 1 (x .settings) frame ++ gapTable x frame)

@@ -18,7 +18,7 @@ pub fn stop_of(x: Receiver, frame: &[u8]) -> Answer
     ensures { λ r. ⌜ r ≡ frameStop x (now (frame .entry)) ⌝ }
 {
     let s = x.settings;
-    let found = header_cause(s, frame);
+    let found = header_cause(1, s, frame);
     if let Answer::Refused(c) = found {
         return Answer::Refused(c);
     }

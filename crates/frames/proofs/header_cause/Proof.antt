@@ -14,10 +14,10 @@ use Rattle.frames.proofs.header_cause.Tie as tie
 abbrev start : tie.Else1 → tie.Start
 start c = c .before .before .before .before
 
-marked : (c : tie.Else1) → agree 5 (now (start c .args .frame)) (mark 1) ≡ true
+marked : (c : tie.Else1) → agree 5 (now (start c .args .frame)) (mark (start c .args .version)) ≡ true
 marked c =
     let a = start c .args in
-    sym (mark-test 1 (a .s) 0 (now (a .frame)) _ (c .before .before .header-bytes .ensures))
+    sym (mark-test (a .version) (a .s) 0 (now (a .frame)) _ (c .before .before .header-bytes .ensures))
     ∙ sym (c .before .agrees .ensures) ∙ not-false (c .before .agrees .result) (c .if1 .left)
 
 returns : tie.Need-returns
@@ -25,7 +25,7 @@ unfolding headerCause
 returns c =
     let at = c .before in
     let a = at .before .before .before .args in
-    rw (sym (mark-test 1 (a .s) 0 (now (a .frame)) _ (at .before .header-bytes .ensures))
+    rw (sym (mark-test (a .version) (a .s) 0 (now (a .frame)) _ (at .before .header-bytes .ensures))
     ∙ sym (at .agrees .ensures) ∙ not-true (at .agrees .result) (c .if1 .taken))
 
 returns-2 : tie.Need-returns-2
@@ -35,7 +35,7 @@ returns-2 c =
     let a = start (at .before) .args in
     rw (
       marked (at .before),
-      sym (five-test 1 (a .s) 0 (now (a .frame)) _ (at .before .before .before .header-bytes .ensures))
+      sym (five-test (a .version) (a .s) 0 (now (a .frame)) _ (at .before .before .before .header-bytes .ensures))
           ∙ sym (at .agrees2 .ensures) ∙ not-true (at .agrees2 .result) (c .if2 .taken),
     )
 
@@ -46,7 +46,7 @@ returns-3 c =
     let a = start (at .before) .args in
     rw (
       marked (at .before),
-      sym (five-test 1 (a .s) 0 (now (a .frame)) _ (at .before .before .before .header-bytes .ensures))
+      sym (five-test (a .version) (a .s) 0 (now (a .frame)) _ (at .before .before .before .header-bytes .ensures))
           ∙ sym (at .agrees2 .ensures) ∙ not-false (at .agrees2 .result) (c .if2 .left),
     )
 

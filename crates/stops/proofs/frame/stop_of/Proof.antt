@@ -13,7 +13,7 @@ abbrev start : tie.After-slot-of → tie.Start
 start c = c .before .before .before .before .before .before
 
 -- the header meets no cause
-own : (c : tie.After-slot-of) → let a = start c .args in headerCause (a .x .settings) (now (a .frame)) ≡ Accepted
+own : (c : tie.After-slot-of) → let a = start c .args in headerCause 1 (a .x .settings) (now (a .frame)) ≡ Accepted
 own c = sym (c .before .before .before .header-cause .ensures) ∙ c .before .enum-told .given .1
 
 -- the slot that was read is the frame's
