@@ -1,6 +1,6 @@
 // The search for the first cause that refuses a report. It writes nothing.
-mod frames;
-mod losses;
+mod frame_report;
+mod loss_report;
 
-pub use frames::frame_cause;
-pub use losses::loss_cause;
+pub use frame_report::frame_cause;
+pub use loss_report::loss_cause;

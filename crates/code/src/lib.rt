@@ -1,6 +1,4 @@
-// The code: settings, the rows of the spread form, and the words of the generator matrix.
-mod matrix;
+// The code: the settings; specs/ has the spread form, the generator matrix and its words.
 mod settings;
 
-pub use matrix::spread_row;
 pub use settings::Settings;

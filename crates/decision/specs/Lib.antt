@@ -1,3 +1,2 @@
--- What the decision comes to, and what its functions say on the way.
-pub mod Decision
+-- The decision as a call.
 pub mod Call

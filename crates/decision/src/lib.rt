@@ -1,12 +1,10 @@
 // The decision on one message, by the receiver's rows. The call takes any input at all, and a refused call changes nothing.
-mod deciding;
-
+use buffers::message_len;
+use buffers::receiver_len;
 use code::Settings;
 use deciding::decided;
 use protocol::Cause;
 use protocol::Reply;
-use protocol::message_len;
-use protocol::receiver_len;
 ghost use mathlib.Core.Path.{_≡_};
 ghost use Rattle.decision.specs.Call.{decisionOf};
 

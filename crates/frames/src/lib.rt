@@ -1,9 +1,11 @@
-// What bytes say of themselves: settings and a slot, from a place on; and whether a frame's header is one of these settings.
+// What bytes say of themselves: settings and a slot, from a place on; the header of a frame, and whether a frame has it.
+mod header;
+
 use code::Settings;
+pub use header::agrees;
+pub use header::header_bytes;
 use protocol::Answer;
 use protocol::Cause;
-use protocol::agrees;
-use protocol::header_bytes;
 ghost use mathlib.Core.Path.{_≡_};
 ghost use Prim.Native.Nat.{_+_, _*_, _≤_};
 ghost use lib.ListN.{length};

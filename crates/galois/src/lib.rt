@@ -1,8 +1,1 @@
-// The two fields of the code: sixteen narrow numbers, and the 256 bytes over them.
-mod byte;
-mod narrow;
-mod tables;
-
-pub use byte::Gf256;
-pub use byte::reciprocals;
-pub use narrow::Gf16;
+// The two fields of the code: specs/ has the definitions, proofs/ the laws, which all crates above cite.

@@ -1,7 +1,7 @@
 // The systematic form: row i is the word whose first k symbols are the i-th unit.
 use crate::matrix::generator;
 use code::Settings;
-use galois::Gf256;
+use fields::Gf256;
 ghost use mathlib.Core.List.{[]};
 ghost use mathlib.Core.Path.{_≡_};
 ghost use Prim.Native.Nat.{_+_, _-_, _≤_, _<_};

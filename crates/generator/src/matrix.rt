@@ -1,8 +1,8 @@
 // The generator matrix G: the spread form widened, with α times the identity in the rows below d.
 use code::Settings;
-use code::spread_row;
-use galois::Gf16;
-use galois::Gf256;
+use fields::Gf16;
+use fields::Gf256;
+use spread::spread_row;
 ghost use mathlib.Core.Path.{_≡_};
 ghost use Prim.Native.Nat.{_<_};
 ghost use Rattle.galois.specs.Table.{table};

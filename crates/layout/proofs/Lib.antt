@@ -1,4 +1,2 @@
--- The laws of the state and of the numbers.
-pub mod StateBytes
-pub mod KeptStates
+-- The laws of the numbers.
 pub mod Refusals

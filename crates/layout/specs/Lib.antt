@@ -1,3 +1,2 @@
--- What the static library's callers keep as bytes, the causes that these give, and the numbers of its replies.
-pub mod State
+-- The numbers of the static library's replies.
 pub mod Numbers

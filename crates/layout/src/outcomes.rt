@@ -3,17 +3,17 @@ use crate::numbers::answer_number;
 use crate::numbers::answer_taken;
 use crate::numbers::reply_number;
 use crate::numbers::reply_taken;
-use crate::state::RECEIVER_END;
-use crate::state::save;
 use code::Settings;
 use protocol::Answer;
 use protocol::Reply;
+use state::RECEIVER_END;
+use state::save;
 ghost use mathlib.Core.Path.{_≡_};
 ghost use lib.ListN.{length};
 ghost use Rattle.protocol.specs.Claim.{accepts};
 ghost use Rattle.protocol.specs.Numbers.{answerNumber, replyNumber};
 ghost use Rattle.layout.specs.Numbers.{taken};
-ghost use Rattle.layout.specs.State.{receiverEnd, stateLen, saved};
+ghost use Rattle.state.specs.State.{receiverEnd, stateLen, saved};
 
 // After an opening or a send.
 pub fn save_answer(answer: Answer, end: u8, s: Settings, due: u32, state: &mut [u8]) -> u32

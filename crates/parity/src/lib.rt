@@ -1,9 +1,9 @@
 // The parity symbols of a frame: weighted sums of the source symbols that the sender's rows hold.
 mod sources;
 
+use buffers::write_at;
 use code::Settings;
 use generator::systematic;
-use protocol::write_at;
 use sources::gather;
 use vectors::weighted;
 ghost use mathlib.Core.Path.{_≡_};

@@ -1,8 +1,8 @@
 // The source symbols of a parity symbol, gathered from the sender's rows into a table of pairs.
+use buffers::message_len;
 use code::Settings;
 use gathering::Source;
 use gathering::pair_up;
-use protocol::message_len;
 ghost use mathlib.Core.Path.{_≡_};
 ghost use Prim.Native.Nat.{_+_, _-_, _%_, _≤_, _<_};
 ghost use lib.Dec.{T};

@@ -76,7 +76,7 @@ fn pattern(s: Settings, j: u8, x: &mut u64)
     let mut roles = first_roles(s, &flags);
     let mut left = parities(s, &flags);
     let matrix = generator::systematic(s);
-    let reciprocals = galois::reciprocals();
+    let reciprocals = fields::reciprocals();
     let rows = reduction::eliminate(s, &reciprocals, matrix, &mut left, &mut roles);
     let mut symbol = [0u8; 1];
     let mark = lanes::answer(s, &rows, &roles, &left, &places, &bytes, i, &mut symbol);

@@ -1,7 +1,7 @@
 // The bytes of a pattern: a codeword, one with a byte changed, or any.
 use crate::random;
 use code::Settings;
-use galois::Gf256;
+use fields::Gf256;
 ghost use Prim.Native.Nat.{_≤_, _<_};
 ghost use Rattle.code.specs.Settings.{nOf};
 

@@ -1,9 +1,9 @@
 // Where the rows and the symbols of the codewords that start at slot t - i stand, and the flags and roles that elimination starts from.
 use crate::known::known_flag;
+use buffers::receiver_len;
+use buffers::row_count;
+use buffers::row_len;
 use code::Settings;
-use protocol::receiver_len;
-use protocol::row_count;
-use protocol::row_len;
 ghost use mathlib.Core.Bool.{cond};
 ghost use mathlib.Core.Path.{_≡_};
 ghost use Prim.Native.Nat.{_+_, _≤_, _<_};

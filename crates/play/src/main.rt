@@ -1,10 +1,10 @@
 // Plays the recording on standard input: reads it to its end, and prints it buffer by buffer.
+use buffers::message_len;
+use buffers::receiver_len;
 use code::Settings;
 use libc::STDERR_FILENO;
 use libc::STDIN_FILENO;
 use libc::STDOUT_FILENO;
-use protocol::message_len;
-use protocol::receiver_len;
 use stops::Start;
 ghost use mathlib.Core.Path.{_≡_};
 ghost use Prim.Native.Nat.{_+_, _*_, _≤_};

@@ -1,24 +1,10 @@
 // The states of both ends, and what a call answers. Each call is a definition in specs/, the demands are statements about these
 // definitions, and proofs/ has their theorems.
-mod header;
-mod lengths;
 mod numbers;
-mod slices;
 mod states;
 
 use code::Settings;
-pub use header::agrees;
-pub use header::header_bytes;
-pub use lengths::body_len;
-pub use lengths::frame_len;
-pub use lengths::message_len;
-pub use lengths::receiver_len;
-pub use lengths::row_count;
-pub use lengths::row_len;
-pub use lengths::sender_len;
 pub use numbers::number_of;
-pub use slices::clear;
-pub use slices::write_at;
 
 // A slot's number.
 pub struct Slot(pub u32);

@@ -1,10 +1,10 @@
 // The receiver's opening.
+use buffers::receiver_len;
+use buffers::row_len;
 use code::Settings;
 use protocol::Answer;
 use protocol::Cause;
 use protocol::Receiver;
-use protocol::receiver_len;
-use protocol::row_len;
 use ring::receive_zeros;
 ghost use mathlib.Core.Path.{_≡_};
 ghost use Rattle.protocol.specs.Calls.{openReceiverOf};

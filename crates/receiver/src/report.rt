@@ -1,9 +1,9 @@
 // What the reports of losses and of frames share.
+use buffers::clear;
 use code::Settings;
 use protocol::Cause;
 use protocol::Receiver;
 use protocol::Reply;
-use protocol::clear;
 ghost use mathlib.Core.Bool.{cond};
 ghost use mathlib.Core.Path.{_≡_};
 ghost use Prim.Native.Nat.{_+_, _≤_};

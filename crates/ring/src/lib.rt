@@ -1,7 +1,7 @@
 // What an opening and a report write into the receiver's ring of rows.
+use buffers::row_count;
+use buffers::row_len;
 use code::Settings;
-use protocol::row_count;
-use protocol::row_len;
 ghost use mathlib.Core.Bool.{cond};
 ghost use mathlib.Core.List.{_∷_, _++_};
 ghost use mathlib.Core.Path.{_≡_};
@@ -31,7 +31,7 @@ fn write_received(rows: &mut [u8], start: usize, body: &[u8])
     ensures { λ _. ⌜ now (rows .exit) ≡ take start (now (rows .entry)) ++ (1 ∷ now (body .entry)) ++ drop (start + (1 + length (now (body .entry)))) (now (rows .entry)) ⌝ }
 {
     rows[start] = 1;
-    protocol::write_at(rows, start + 1, body);
+    buffers::write_at(rows, start + 1, body);
 }
 
 // A row that was lost: zeros.

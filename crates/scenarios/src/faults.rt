@@ -164,7 +164,7 @@ fn copy(to: &mut [u8], from: &[u8], faults: usize, x: &mut u64) {
     if to.len() < from.len() {
         return;
     }
-    protocol::write_at(to, 0, from);
+    buffers::write_at(to, 0, from);
     change(to, faults, x);
 }
 

@@ -33,7 +33,7 @@ fn send_faults(x: &mut u64) -> usize {
 // A message is drawn and sent, at times after a send with faults.
 fn sending(before: Sender, x: &mut u64, rows: &mut [u8], frame: &mut [u8]) -> Sender {
     let settings = before.settings;
-    let end = room(protocol::message_len(settings), 1040);
+    let end = room(buffers::message_len(settings), 1040);
     let message = random::bytes(end, x);
     let set = send_faults(x);
     faults::send(before, set, x, rows, &message[0..end], frame);
@@ -140,10 +140,10 @@ fn play(
 // A scenario: its title, its buffers and all its calls.
 fn scenario(s: Settings, lent: bool, start: u32, x: &mut u64) {
     title::scenario(s, lent, start);
-    let sent_end = room(protocol::sender_len(s), 32768);
-    let received_end = room(protocol::receiver_len(s), 32768);
-    let frame_end = room(protocol::frame_len(s), 1040);
-    let buffer_end = room(protocol::message_len(s), 1040);
+    let sent_end = room(buffers::sender_len(s), 32768);
+    let received_end = room(buffers::receiver_len(s), 32768);
+    let frame_end = room(buffers::frame_len(s), 1040);
+    let buffer_end = room(buffers::message_len(s), 1040);
     let mut sent = random::rows(sent_end, x);
     let mut received = random::rows(received_end, x);
     let mut frame = random::bytes(frame_end, x);

@@ -49,7 +49,7 @@ pub(crate) fn draw(s: Settings, lent: bool, sent: &mut [u8], received: &mut [u8]
     }
     random::fill(sent, x);
     random::fill(received, x);
-    flags(received, protocol::row_len(s), x);
+    flags(received, buffers::row_len(s), x);
 }
 
 // A flag written between two calls.
@@ -66,7 +66,7 @@ fn some_flag(x: &mut u64) -> u8 {
 fn row_at(s: Settings, r: usize) -> usize
     requires { ⌜ r < 32768 ⌝ }
 {
-    r * protocol::row_len(s)
+    r * buffers::row_len(s)
 }
 
 // Of lent rows, once in four times: the first byte of a drawn row.
@@ -77,6 +77,6 @@ pub(crate) fn touch(s: Settings, lent: bool, rows: &mut [u8], x: &mut u64) {
     if 0 < random::below(x, 4) {
         return;
     }
-    let r = random::below(x, protocol::row_count(s));
+    let r = random::below(x, buffers::row_count(s));
     put(rows, row_at(s, r), some_flag(x));
 }

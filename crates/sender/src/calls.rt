@@ -2,13 +2,13 @@
 use crate::frame::write_frame;
 use crate::lengths::exact;
 use crate::rows::remember;
+use buffers::clear;
+use buffers::sender_len;
 use code::Settings;
 use protocol::Answer;
 use protocol::Cause;
 use protocol::Sender;
 use protocol::Slot;
-use protocol::clear;
-use protocol::sender_len;
 ghost use mathlib.Core.Path.{_≡_};
 ghost use Rattle.protocol.specs.Calls.{openSenderOf, sendOf};
 ghost use Rattle.protocol.specs.declared.Answer.the-variants.{Refused};

@@ -1,8 +1,8 @@
 // The frame of the slot due: 14 bytes of header, then the message, whose symbols are the first k, and the parity symbols.
+use buffers::write_at;
 use code::Settings;
+use frames::header_bytes;
 use parity::write_parities;
-use protocol::header_bytes;
-use protocol::write_at;
 ghost use mathlib.Core.Path.{_≡_};
 ghost use lib.Dec.{T};
 ghost use lib.ListN.{length};

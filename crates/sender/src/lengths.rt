@@ -1,8 +1,8 @@
 // Whether the lent buffers of a send have their lengths.
+use buffers::frame_len;
+use buffers::message_len;
+use buffers::sender_len;
 use code::Settings;
-use protocol::frame_len;
-use protocol::message_len;
-use protocol::sender_len;
 ghost use mathlib.Core.Bool.{_&&_};
 ghost use mathlib.Core.Path.{_≡_};
 ghost use lib.Dec.{eqb};

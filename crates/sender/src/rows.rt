@@ -1,6 +1,6 @@
 // What the sender remembers: the last n - 1 messages, in a ring of rows.
+use buffers::write_at;
 use code::Settings;
-use protocol::write_at;
 ghost use mathlib.Core.Path.{_≡_};
 ghost use Prim.Native.Nat.{_-_, _%_};
 ghost use lib.Dec.{T};

@@ -1,5 +1,7 @@
 // The steps of a player: each makes one report, and writes at most one line over the start of a lent one. Document 01, "Playing a
 // recording".
+use buffers::clear;
+use buffers::frame_len;
 use code::Settings;
 use frames::slot_of;
 use progress::Player;
@@ -8,8 +10,6 @@ use progress::stopped;
 use progress::told;
 use protocol::Answer;
 use protocol::Cause;
-use protocol::clear;
-use protocol::frame_len;
 use recording::Found;
 use recording::next_frame;
 use stops::stop_of;

@@ -1,8 +1,8 @@
 // How a recording starts: the tests before any line.
 use crate::Start;
+use buffers::frame_len;
 use frames::settings_at;
 use protocol::Cause;
-use protocol::frame_len;
 ghost use mathlib.Core.Path.{_≡_};
 ghost use Rattle.stops.specs.Stops.{startOf};
 

@@ -1,17 +1,17 @@
 // How long each lent buffer is, for settings of five bytes: W, T, B, N and L. 0 where they are not accepted.
+use buffers::frame_len;
+use buffers::message_len;
+use buffers::receiver_len;
+use buffers::sender_len;
 use code::Settings;
 use frames::settings_at;
-use layout::STATE_LEN;
-use protocol::frame_len;
-use protocol::message_len;
-use protocol::receiver_len;
-use protocol::sender_len;
+use state::STATE_LEN;
 ghost use mathlib.Core.Bool.{cond};
 ghost use mathlib.Core.Path.{_≡_};
 ghost use Rattle.code.specs.Settings.{accepted};
 ghost use Rattle.protocol.specs.Lengths.{messageLen, frameLen, senderLen, receiverLen};
-ghost use Rattle.layout.specs.State.{stateLen};
-ghost use Rattle.tob.specs.Calls.{lengthFor};
+ghost use Rattle.state.specs.State.{stateLen};
+ghost use Rattle.library.specs.Calls.{lengthFor};
 
 // A state.
 #[no_mangle]

@@ -1,17 +1,17 @@
 // The openings of both ends.
 use code::Settings;
 use frames::settings_at;
-use layout::RECEIVER_END;
-use layout::SENDER_END;
-use layout::STATE_LEN;
 use layout::save_answer;
 use protocol::Answer;
 use protocol::Cause;
 use protocol::number_of;
+use state::RECEIVER_END;
+use state::SENDER_END;
+use state::STATE_LEN;
 ghost use mathlib.Core.Path.{_≡_};
 ghost use Rattle.protocol.specs.Causes.{openCause};
-ghost use Rattle.layout.specs.State.{stateLen};
-ghost use Rattle.tob.specs.Calls.{openSenderBytes, openReceiverBytes};
+ghost use Rattle.state.specs.State.{stateLen};
+ghost use Rattle.library.specs.Calls.{openSenderBytes, openReceiverBytes};
 
 // The first cause that the settings and the lent state give, before those that the rows give.
 fn opening_cause(s: Settings, state: &[u8]) -> Answer

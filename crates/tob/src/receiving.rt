@@ -1,12 +1,12 @@
 // The receiver's calls: the reports of frames and of losses.
-use layout::RECEIVER_END;
-use layout::receiver_in;
 use layout::save_reply;
-use layout::state_cause;
 use protocol::Answer;
 use protocol::number_of;
+use state::RECEIVER_END;
+use state::receiver_in;
+use state::state_cause;
 ghost use mathlib.Core.Path.{_≡_};
-ghost use Rattle.tob.specs.Calls.{heardBytes, lostBytes};
+ghost use Rattle.library.specs.Calls.{heardBytes, lostBytes};
 
 // The report of a frame, for the slot due.
 #[no_mangle]

@@ -1,12 +1,12 @@
 // The sender's call.
-use layout::SENDER_END;
 use layout::save_answer;
-use layout::sender_in;
-use layout::state_cause;
 use protocol::Answer;
 use protocol::number_of;
+use state::SENDER_END;
+use state::sender_in;
+use state::state_cause;
 ghost use mathlib.Core.Path.{_≡_};
-ghost use Rattle.tob.specs.Calls.{sendBytes};
+ghost use Rattle.library.specs.Calls.{sendBytes};
 
 // Hands out the frame of the slot due, and remembers the message.
 #[no_mangle]

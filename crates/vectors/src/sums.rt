@@ -1,6 +1,6 @@
 // Weighted sums of the vectors of a table of pairs. The coefficients are taken bit by bit, so that a sum stays in registers; the halves of
 // the two coefficients of a pair stand in one byte, so that two bits of it pick one entry of the pair.
-use galois::Gf256;
+use fields::Gf256;
 ghost use mathlib.Core.Path.{_≡_};
 ghost use mathlib.Core.List.{[]};
 ghost use Prim.Native.Nat.{ℕ, _*_, _/_, _%_, _^_, _<_, _≤_};

@@ -3,7 +3,7 @@ use borrow.Author.Needs.{needs}
 use mathlib.Core.Path.{ap, _∙_}
 use mathlib.Core.Bool.{Bool}
 use denote.Ref.{now}
-use Rattle.layout.specs.State.{saved}
+use Rattle.state.specs.State.{saved}
 use Rattle.layout.proofs.outcomes.save_answer.Statement.{statement}
 use Rattle.layout.proofs.outcomes.save_answer.Tie as tie
 

@@ -3,7 +3,7 @@ use borrow.Author.Needs.{needs}
 use mathlib.Core.Path.{ap, _∙_}
 use mathlib.Core.Bool.{Bool}
 use denote.Ref.{now}
-use Rattle.layout.specs.State.{receiverEnd, saved}
+use Rattle.state.specs.State.{receiverEnd, saved}
 use Rattle.layout.proofs.outcomes.save_reply.Statement.{statement}
 use Rattle.layout.proofs.outcomes.save_reply.Tie as tie
 

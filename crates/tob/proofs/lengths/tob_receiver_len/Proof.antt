@@ -6,7 +6,7 @@ use Prim.Native.Nat.{ℕ}
 use Rattle.code.specs.declared.settings.Settings.{Settings}
 use Rattle.code.specs.Settings.{accepted}
 use Rattle.protocol.specs.Lengths.{receiverLen}
-use Rattle.tob.proofs.Outcomes.{length-for}
+use Rattle.library.proofs.Outcomes.{length-for}
 use Rattle.tob.proofs.lengths.tob_receiver_len.Statement.{statement}
 use Rattle.tob.proofs.lengths.tob_receiver_len.Tie as tie
 

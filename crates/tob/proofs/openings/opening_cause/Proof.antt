@@ -8,7 +8,7 @@ use denote.Ref.{now}
 use lib.ListN.{length}
 use Rattle.code.specs.Settings.{accepted}
 use Rattle.protocol.specs.Causes.{openCause}
-use Rattle.layout.specs.State.{stateLen}
+use Rattle.state.specs.State.{stateLen}
 use Rattle.tob.proofs.openings.opening_cause.Statement.{statement}
 use Rattle.tob.proofs.openings.opening_cause.Tie as tie
 

@@ -9,9 +9,9 @@ use Rattle.protocol.specs.declared.Answer.the-variants as answer
 use Rattle.protocol.specs.Causes.{openCause}
 use Rattle.protocol.specs.Calls.{openReceiverOf}
 use Rattle.frames.specs.Fields.{settingsAt}
-use Rattle.layout.specs.State.{stateLen}
-use Rattle.tob.specs.Calls.{Opening}
-use Rattle.tob.proofs.Outcomes.{opened-length, receiverLeft, receiver-caused, receiver-uncaused}
+use Rattle.state.specs.State.{stateLen}
+use Rattle.library.specs.Calls.{Opening}
+use Rattle.library.proofs.Outcomes.{opened-length, receiverLeft, receiver-caused, receiver-uncaused}
 use Rattle.tob.proofs.openings.tob_open_receiver.Statement.{statement}
 use Rattle.tob.proofs.openings.tob_open_receiver.Tie as tie
 

@@ -9,10 +9,10 @@ use lib.ListN.{length}
 use Rattle.protocol.specs.declared.Receiver.{Receiver}
 use Rattle.protocol.specs.declared.Answer.the-variants as answer
 use Rattle.protocol.specs.Calls.{heardOf}
-use Rattle.layout.specs.State.{receiverEnd, stateLen, stateCause}
-use Rattle.layout.proofs.KeptStates.{uncaused-length}
-use Rattle.tob.specs.Calls.{Reporting}
-use Rattle.tob.proofs.Outcomes.{reportLeft, heard-caused, heard-uncaused}
+use Rattle.state.specs.State.{receiverEnd, stateLen, stateCause}
+use Rattle.state.proofs.KeptStates.{uncaused-length}
+use Rattle.library.specs.Calls.{Reporting}
+use Rattle.library.proofs.Outcomes.{reportLeft, heard-caused, heard-uncaused}
 use Rattle.tob.proofs.receiving.tob_heard.Statement.{statement}
 use Rattle.tob.proofs.receiving.tob_heard.Tie as tie
 

@@ -9,10 +9,10 @@ use lib.ListN.{length}
 use Rattle.protocol.specs.declared.Sender.{Sender}
 use Rattle.protocol.specs.declared.Answer.the-variants as answer
 use Rattle.protocol.specs.Calls.{sendOf}
-use Rattle.layout.specs.State.{senderEnd, stateLen, stateCause}
-use Rattle.layout.proofs.KeptStates.{uncaused-length}
-use Rattle.tob.specs.Calls.{Sending}
-use Rattle.tob.proofs.Outcomes.{sendLeft, send-caused, send-uncaused}
+use Rattle.state.specs.State.{senderEnd, stateLen, stateCause}
+use Rattle.state.proofs.KeptStates.{uncaused-length}
+use Rattle.library.specs.Calls.{Sending}
+use Rattle.library.proofs.Outcomes.{sendLeft, send-caused, send-uncaused}
 use Rattle.tob.proofs.sending.tob_send.Statement.{statement}
 use Rattle.tob.proofs.sending.tob_send.Tie as tie
 

@@ -1,0 +1,251 @@
+-- What a call reads is what the call before it wrote, so a list of the library's calls is protocol's, call by call.
+use mathlib.Core.Path.{_≡_, refl, sym, ap, _∙_, subst, subst⁻¹}
+use mathlib.Core.Bool.{Bool, true, cond}
+use mathlib.Core.List.{List, [], _∷_, Forall₂, Forall₂·nil, Forall₂·cons}
+use native.Mathlib.Omega.{arith}
+use Prim.Native.Nat.{ℕ, _+_, _≤_}
+use lib.Dec.{T}
+use lib.ListN.{length, drop}
+use Rattle.galois.proofs.Cases.{is-true}
+use Rattle.code.specs.declared.settings.Settings.{Settings}
+use Rattle.code.specs.Settings.{accepted}
+use Rattle.protocol.specs.declared.Sender.{Sender}
+use Rattle.protocol.specs.declared.Receiver.{Receiver}
+use Rattle.protocol.specs.declared.Cause.{Cause}
+use Rattle.protocol.specs.declared.Answer.{Answer}
+use Rattle.protocol.specs.declared.Answer.the-variants as answer
+use Rattle.protocol.specs.Causes.{lossCause, frameCause}
+use Rattle.protocol.specs.Lengths.{lastSlot, senderLen, receiverLen}
+use Rattle.protocol.specs.States.{openedSender, sentOn, openedReceiver, reportedOn}
+use Rattle.protocol.specs.Calls.{OpenedSender, OpenedReceiver, Sent, Reported, openSenderOf, openReceiverOf, sendOf, movedOn, lossOf, heardOf}
+use Rattle.protocol.specs.Histories.{accepts}
+use Rattle.protocol.specs.TwoLists.{Send, SendMade, sends, Report, heard, missed, reportOf, ReportMade, reports}
+use Rattle.protocol.proofs.CauseTables.{open-clear}
+use Rattle.protocol.proofs.Sending as sending
+use Rattle.protocol.proofs.ReportCauses.{loss-open, frame-open}
+use Rattle.protocol.proofs.ReportRows.{moved-accepts}
+use Rattle.protocol.proofs.ReportSteps as steps
+use Rattle.protocol.proofs.ReportChain as reporting
+use Rattle.frames.specs.Fields.{settingsAt}
+use Rattle.state.specs.State.{senderEnd, receiverEnd, senderBytes, receiverBytes, saved, stateLen, senderIn, receiverIn, stateCause}
+use Rattle.protocol.specs.Numbers.{answerNumber, replyNumber}
+use Rattle.state.proofs.KeptStates.{state-uncaused, sender-in-state, receiver-in-state}
+use Rattle.layout.proofs.Refusals.{cause-refused, reply-accepted}
+use Rattle.library.specs.Calls.{settingsOf, Opening, openSenderBytes, openReceiverBytes, Sending, sendBytes, Reporting}
+use Rattle.library.specs.Chains.{dueAfter, SendDone, sendsBytes, reportBytes, ReportDone, reportsBytes}
+use Rattle.library.proofs.Outcomes.{senderLeft, sender-uncaused, receiverLeft, receiver-uncaused, sendLeft, send-uncaused, reportLeft, heard-uncaused, lost-uncaused}
+
+-- ---- the sender
+
+-- the bytes are a sender's state, and keep this sender
+pub record KeepsSender (state : List ℕ) (x : Sender) : Type 0 where
+  pub uncaused : stateCause senderEnd state ≡ answer.Accepted
+  pub reads : senderIn state ≡ x
+
+-- a state that was written keeps what it was written from
+kept-sender : (x : Sender) → x .due ≤ lastSlot + 1 → KeepsSender (senderBytes x) x
+kept-sender x few = record { uncaused = state-uncaused senderEnd (x .settings) (x .due); reads = sender-in-state x few }
+
+-- an opening with accepted settings and exact lengths replies 0, and the next call reads the sender that it opened
+pub opened-sender-read : (settings state rows : List ℕ) → T (accepted (settingsOf settings)) → length state ≡ stateLen
+    → length rows ≡ senderLen (settingsOf settings)
+    → let b : Opening = openSenderBytes settings state rows in
+    let r : OpenedSender = openSenderOf (settingsOf settings) rows in
+    (b .reply ≡ 0) × (b .rows ≡ r .rows) × KeepsSender (b .state) (r .sender)
+unfolding settingsOf
+opened-sender-read settings state rows ok room full =
+    let s : Settings = settingsAt 0 settings in
+    subst
+    (λ (b : Opening).
+    (b .reply ≡ 0) × (b .rows ≡ openSenderOf s rows .rows) × KeepsSender (b .state) (openSenderOf s rows .sender))
+    (sender-uncaused settings state rows (open-clear s stateLen state ok room))
+    (subst⁻¹
+    (λ (r : OpenedSender).
+    (senderLeft state r .reply ≡ 0) × (senderLeft state r .rows ≡ r .rows) × KeepsSender (senderLeft state r .state) (r .sender))
+    (sending.opened-sender s rows ok full)
+    (refl, refl, kept-sender (openedSender s) (omega arith)))
+
+-- a send by the library: what it leaves, the sender that the next call reads, and the slot due then
+pub record SendStep (state rows message frame : List ℕ) (x : Sender) : Type 0 where
+  pub same : sendBytes state rows message frame ≡ sendLeft state (sendOf x rows message frame)
+  pub next : KeepsSender (sendBytes state rows message frame .state) (sendOf x rows message frame .sender)
+  pub due : sendOf x rows message frame .sender .due ≡ dueAfter (x .due) (sendBytes state rows message frame .reply)
+
+module _ (state rows message frame : List ℕ) (none : stateCause senderEnd state ≡ answer.Accepted) where
+  abbrev x : Sender
+  x = senderIn state
+
+  abbrev Next : Sent → Type 0
+  Next r = KeepsSender (sendLeft state r .state) (r .sender) × (r .sender .due ≡ dueAfter (x .due) (sendLeft state r .reply))
+
+  -- by whether the send is taken
+  sent-next : sending.SendCase x rows message frame → Next (sendOf x rows message frame)
+  sent-next (sending.taken h e) = subst⁻¹ Next e (kept-sender (sentOn x) (omega (arith, h .in-time)), refl)
+  sent-next (sending.refused c _ e) =
+      subst⁻¹ Next e (record { uncaused = none; reads = refl }, ap (λ (t : Bool). cond t (x .due + 1) (x .due)) (sym (cause-refused c)))
+
+  -- a send of the sender that the state keeps is protocol's
+  sent-step : SendStep state rows message frame x
+  sent-step =
+      let same = sym (send-uncaused state rows message frame none) in
+      let next = sent-next (sending.send-case x rows message frame) in
+      record {
+        same = same;
+        next = subst⁻¹ (λ (b : Sending). KeepsSender (b .state) (sendOf x rows message frame .sender)) same (next .0);
+        due = next .1 ∙ ap (λ (b : Sending). dueAfter (x .due) (b .reply)) (sym same);
+      }
+
+pub send-step : (state rows message frame : List ℕ) (x : Sender) → KeepsSender state x → SendStep state rows message frame x
+send-step state rows message frame x k =
+    subst (SendStep state rows message frame) (k .reads) (sent-step state rows message frame (k .uncaused))
+
+-- the library's send and protocol's: for the same slot, with the same call, and alike in what the caller sees
+pub record SameSend (m : SendMade) (b : SendDone) : Type 0 where
+  pub due : b .due ≡ m .before .due
+  pub call : b .call ≡ m .call
+  pub reply : b .after .reply ≡ answerNumber (m .after .answer)
+  pub frame : b .after .frame ≡ m .after .frame
+
+-- so a list of sends is protocol's
+pub sends-read : (calls : List Send) (due : ℕ) (state rows : List ℕ) (x : Sender) → KeepsSender state x → x .due ≡ due
+    → Forall₂ SameSend (sends x rows calls) (sendsBytes due state rows calls)
+unfolding sendsBytes sends
+sends-read [] due state rows x k e = Forall₂·nil
+sends-read (c ∷ cs) due state rows x k e =
+    let b : Sending = sendBytes state rows (c .message) (c .frame) in
+    let r : Sent = sendOf x rows (c .message) (c .frame) in
+    let step = send-step state rows (c .message) (c .frame) x k in
+    Forall₂·cons
+    (record {
+      due = sym e;
+      call = refl;
+      reply = ap (λ (y : Sending). y .reply) (step .same);
+      frame = ap (λ (y : Sending). y .frame) (step .same);
+    })
+    (subst
+    (λ (rest : List ℕ). Forall₂ SameSend (sends (r .sender) rest cs) (sendsBytes (dueAfter due (b .reply)) (b .state) (b .rows) cs))
+    (ap (λ (y : Sending). y .rows) (step .same))
+    (sends-read cs (dueAfter due (b .reply)) (b .state) (b .rows) (r .sender) (step .next)
+    (step .due ∙ ap (λ (d : ℕ). dueAfter d (b .reply)) e)))
+
+-- ---- the receiver
+
+-- the bytes are a receiver's state, and keep this receiver
+pub record KeepsReceiver (state : List ℕ) (y : Receiver) : Type 0 where
+  pub uncaused : stateCause receiverEnd state ≡ answer.Accepted
+  pub reads : receiverIn state ≡ y
+
+kept-receiver : (y : Receiver) → y .due ≤ lastSlot + 1 → KeepsReceiver (receiverBytes y) y
+kept-receiver y few = record { uncaused = state-uncaused receiverEnd (y .settings) (y .due); reads = receiver-in-state y few }
+
+-- an opening with accepted settings and exact lengths replies 0, and the next call reads the receiver that it opened
+pub opened-receiver-read : (settings state rows : List ℕ) → T (accepted (settingsOf settings)) → length state ≡ stateLen
+    → length rows ≡ receiverLen (settingsOf settings)
+    → let b : Opening = openReceiverBytes settings state rows in
+    let r : OpenedReceiver = openReceiverOf (settingsOf settings) rows in
+    (b .reply ≡ 0) × (b .rows ≡ r .rows) × KeepsReceiver (b .state) (r .receiver)
+unfolding settingsOf
+opened-receiver-read settings state rows ok room full =
+    let s : Settings = settingsAt 0 settings in
+    subst
+    (λ (b : Opening).
+    (b .reply ≡ 0) × (b .rows ≡ openReceiverOf s rows .rows) × KeepsReceiver (b .state) (openReceiverOf s rows .receiver))
+    (receiver-uncaused settings state rows (open-clear s stateLen state ok room))
+    (subst⁻¹
+    (λ (r : OpenedReceiver).
+    (receiverLeft state r .reply ≡ 0) × (receiverLeft state r .rows ≡ r .rows)
+    × KeepsReceiver (receiverLeft state r .state) (r .receiver))
+    (reporting.opened-receiver s ok rows full)
+    (refl, refl, kept-receiver (openedReceiver s) (omega arith)))
+
+-- a report by the library: what it leaves, the receiver that the next call reads, and the slot due then
+pub record ReportStep (state rows : List ℕ) (call : Report) (y : Receiver) : Type 0 where
+  pub same : reportBytes state rows call ≡ reportLeft state (reportOf y rows call)
+  pub next : KeepsReceiver (reportBytes state rows call .state) (reportOf y rows call .receiver)
+  pub due : reportOf y rows call .receiver .due ≡ dueAfter (y .due) (reportBytes state rows call .reply)
+
+module _ (state rows : List ℕ) (none : stateCause receiverEnd state ≡ answer.Accepted) where
+  abbrev y : Receiver
+  y = receiverIn state
+
+  report-same : (call : Report) → reportBytes state rows call ≡ reportLeft state (reportOf y rows call)
+  unfolding reportOf reportBytes
+  report-same (heard frame message) = sym (heard-uncaused state rows message frame none)
+  report-same (missed message) = sym (lost-uncaused state rows message none)
+
+  abbrev After : Reported → Type 0
+  After r = KeepsReceiver (reportLeft state r .state) (r .receiver) × (r .receiver .due ≡ dueAfter (y .due) (reportLeft state r .reply))
+
+  moved-next : (row : List ℕ) → y .due ≤ lastSlot → After (movedOn y row rows)
+  unfolding movedOn
+  moved-next row before =
+      let r : Reported = movedOn y row rows in
+      let passed : accepts (r .reply) ≡ true = is-true (accepts (r .reply)) (moved-accepts y row rows) in (
+        subst⁻¹ (λ (t : Bool). KeepsReceiver (saved t receiverEnd (y .settings) (y .due + 1) state) (r .receiver)) passed
+            (kept-receiver (reportedOn y) (omega arith)),
+        ap (λ (t : Bool). cond t (y .due + 1) (y .due)) (sym (reply-accepted (r .reply) ∙ passed)),
+      )
+
+  stayed-next : (c : Cause) (message : List ℕ) → After (steps.refusal c y rows message)
+  stayed-next c message =
+      (record { uncaused = none; reads = refl }, ap (λ (t : Bool). cond t (y .due + 1) (y .due)) (sym (cause-refused c)))
+
+  -- by the cause that is found
+  heard-next : (frame message : List ℕ) (found : Answer) → frameCause y rows frame message ≡ found → After (heardOf y rows frame message)
+  heard-next frame message answer.Accepted e =
+      subst⁻¹ After (steps.heard-moves y rows frame message e)
+      (moved-next (1 ∷ drop 14 frame) (frame-open y rows message 1 frame e .in-time))
+  heard-next frame message (answer.Refused c) e = subst⁻¹ After (steps.heard-stays y rows frame message c e) (stayed-next c message)
+
+  lost-next : (message : List ℕ) (found : Answer) → lossCause y rows message ≡ found → After (lossOf y rows message)
+  lost-next message answer.Accepted e =
+      subst⁻¹ After (steps.loss-moves y rows message e) (moved-next _ (loss-open y rows message e .in-time))
+  lost-next message (answer.Refused c) e = subst⁻¹ After (steps.loss-stays y rows message c e) (stayed-next c message)
+
+  report-next : (call : Report) → After (reportOf y rows call)
+  unfolding reportOf
+  report-next (heard frame message) = heard-next frame message (frameCause y rows frame message) refl
+  report-next (missed message) = lost-next message (lossCause y rows message) refl
+
+  -- a report to the receiver that the state keeps is protocol's
+  reported-step : (call : Report) → ReportStep state rows call y
+  reported-step call =
+      let same = report-same call in
+      let next = report-next call in
+      record {
+        same = same;
+        next = subst⁻¹ (λ (b : Reporting). KeepsReceiver (b .state) (reportOf y rows call .receiver)) same (next .0);
+        due = next .1 ∙ ap (λ (b : Reporting). dueAfter (y .due) (b .reply)) (sym same);
+      }
+
+pub report-step : (state rows : List ℕ) (call : Report) (y : Receiver) → KeepsReceiver state y → ReportStep state rows call y
+report-step state rows call y k = subst (ReportStep state rows call) (k .reads) (reported-step state rows (k .uncaused) call)
+
+-- the library's report and protocol's: for the same slot, with the same call, and alike in what the caller sees
+pub record SameReport (m : ReportMade) (b : ReportDone) : Type 0 where
+  pub due : b .due ≡ m .before .due
+  pub call : b .call ≡ m .call
+  pub reply : b .after .reply ≡ replyNumber (m .after .reply)
+  pub message : b .after .message ≡ m .after .message
+
+-- so a list of reports is protocol's
+pub reports-read : (calls : List Report) (due : ℕ) (state rows : List ℕ) (y : Receiver) → KeepsReceiver state y → y .due ≡ due
+    → Forall₂ SameReport (reports y rows calls) (reportsBytes due state rows calls)
+unfolding reportsBytes reports
+reports-read [] due state rows y k e = Forall₂·nil
+reports-read (c ∷ cs) due state rows y k e =
+    let b : Reporting = reportBytes state rows c in
+    let r : Reported = reportOf y rows c in
+    let step = report-step state rows c y k in
+    Forall₂·cons
+    (record {
+      due = sym e;
+      call = refl;
+      reply = ap (λ (z : Reporting). z .reply) (step .same);
+      message = ap (λ (z : Reporting). z .message) (step .same);
+    })
+    (subst
+    (λ (rest : List ℕ). Forall₂ SameReport (reports (r .receiver) rest cs) (reportsBytes (dueAfter due (b .reply)) (b .state) (b .rows) cs))
+    (ap (λ (z : Reporting). z .rows) (step .same))
+    (reports-read cs (dueAfter due (b .reply)) (b .state) (b .rows) (r .receiver) (step .next)
+    (step .due ∙ ap (λ (d : ℕ). dueAfter d (b .reply)) e)))

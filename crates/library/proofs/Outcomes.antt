@@ -1,0 +1,200 @@
+-- What each way out of a call gives back: where the state gives a cause, that refusal; else what protocol's call leaves.
+use mathlib.Core.Path.{_≡_, refl}
+use mathlib.Core.Bool.{Bool, true, false, cond, not, _&&_}
+use mathlib.Core.List.{List, [], _∷_}
+use Prim.Native.Nat.{ℕ}
+use lib.Dec.{eqb, eqb→eq}
+use lib.ListN.{length, drop}
+use Rattle.galois.proofs.Cases.{is-true}
+use Rattle.code.specs.declared.settings.Settings.{Settings}
+use Rattle.code.specs.Settings.{accepted}
+use Rattle.protocol.specs.declared.Cause.{Cause}
+use Rattle.protocol.specs.declared.Cause.the-variants.{BadSettings, BadLength}
+use Rattle.protocol.specs.Lengths.{senderLen, receiverLen}
+use Rattle.protocol.specs.declared.Answer.{Answer}
+use Rattle.protocol.specs.declared.Answer.the-variants as answer
+use Rattle.protocol.specs.Causes.{numberOf, row, firstOf, openTable, sendTable, lossTable, frameTable, openCause, sendCause, lossCause, frameCause, frameCauseOf}
+use Rattle.protocol.specs.Calls.{OpenedSender, OpenedReceiver, Sent, Reported, openSenderOf, sendOf, openReceiverOf, movedOn, heardOf, lossOf}
+use Rattle.protocol.specs.Histories.{accepts}
+use Rattle.protocol.proofs.CauseTables.{none-holds, followedBy, one-below, passes}
+use Rattle.protocol.proofs.ReportRows.{moved-accepts}
+use Rattle.frames.specs.Fields.{settingsAt}
+use Rattle.state.specs.State.{senderEnd, receiverEnd, saved, stateLen, senderIn, receiverIn, stateTable, stateCause}
+use Rattle.protocol.specs.Numbers.{answerNumber, replyNumber}
+use Rattle.layout.specs.Numbers.{taken}
+use Rattle.library.specs.Causes.{openBytesCause, sendBytesCause, heardBytesCause, lostBytesCause}
+use Rattle.library.specs.Calls.{settingsOf, lengthFor, Opening, openSenderBytes, openReceiverBytes, Sending, sendBytes, Reporting, reportedBytes, heardBytes, lostBytes}
+
+-- ---- lengths
+
+pub length-for : (size : Settings → ℕ) (settings : List ℕ)
+    → cond (accepted (settingsAt 0 settings)) (size (settingsAt 0 settings)) 0 ≡ lengthFor size settings
+unfolding settingsOf lengthFor
+length-for size settings = refl
+
+-- ---- causes
+
+-- the cause that the settings or the state give an opening, else that of protocol's opening
+pub open-cause : (s : Settings) (size : ℕ) (state rows : List ℕ)
+    → openBytesCause s size state rows ≡ followedBy (openCause s stateLen state) (openCause s size rows)
+unfolding openCause openBytesCause
+open-cause s size state rows = go (accepted s) (eqb (length state) stateLen)
+  where
+    go : (p q : Bool)
+        → firstOf (row (not p) BadSettings ∷ row (not (q && eqb (length rows) size)) BadLength ∷ [])
+        ≡ followedBy (firstOf (row (not p) BadSettings ∷ row (not q) BadLength ∷ []))
+        (firstOf (row (not p) BadSettings ∷ row (not (eqb (length rows) size)) BadLength ∷ []))
+    go false q = refl
+    go true false = refl
+    go true true = refl
+
+-- the cause that the state gives, else that of protocol's call on what it keeps
+module _ (state rows message : List ℕ) where
+  pub send-cause : (frame : List ℕ)
+      → sendBytesCause state rows message frame ≡ followedBy (stateCause senderEnd state) (sendCause (senderIn state) rows message frame)
+  unfolding stateCause sendCause sendBytesCause
+  send-cause frame = one-below (stateTable senderEnd state) (sendTable (senderIn state) rows message frame)
+
+  pub heard-cause : (frame : List ℕ)
+      → heardBytesCause state rows frame message ≡ followedBy (stateCause receiverEnd state) (frameCause (receiverIn state) rows frame message)
+  unfolding stateCause frameCauseOf heardBytesCause
+  heard-cause frame = one-below (stateTable receiverEnd state) (frameTable (receiverIn state) rows frame message)
+
+  pub lost-cause : lostBytesCause state rows message ≡ followedBy (stateCause receiverEnd state) (lossCause (receiverIn state) rows message)
+  unfolding stateCause lossCause lostBytesCause
+  lost-cause = one-below (stateTable receiverEnd state) (lossTable (receiverIn state) rows message)
+
+-- ---- openings
+
+-- where the settings and the state give no cause, the state has its length
+pub opened-length : (s : Settings) (state : List ℕ) → openCause s stateLen state ≡ answer.Accepted → length state ≡ stateLen
+unfolding openCause
+opened-length s state none =
+    eqb→eq (length state) stateLen
+    (passes (eqb (length state) stateLen) (none-holds (openTable s stateLen state) none BadLength))
+
+-- what protocol's opening of a sender leaves of the lent lists
+abbrev pub senderLeft : List ℕ → OpenedSender → Opening
+senderLeft state r = record {
+  reply = answerNumber (r .answer);
+  state = saved (taken (r .answer)) senderEnd (r .sender .settings) (r .sender .due) state;
+  rows = r .rows;
+}
+
+-- and of a receiver
+abbrev pub receiverLeft : List ℕ → OpenedReceiver → Opening
+receiverLeft state r = record {
+  reply = answerNumber (r .answer);
+  state = saved (taken (r .answer)) receiverEnd (r .receiver .settings) (r .receiver .due) state;
+  rows = r .rows;
+}
+
+module _ (settings state rows : List ℕ) where
+  abbrev s : Settings
+  s = settingsAt 0 settings
+
+  pub sender-caused : (c : Cause) → openCause s stateLen state ≡ answer.Refused c
+      → record { reply = numberOf c; state = state; rows = rows } ≡ openSenderBytes settings state rows
+  unfolding settingsOf openSenderBytes
+  sender-caused c e = rw (open-cause s (senderLen s) state rows, e, openSenderBytes)
+
+  pub sender-uncaused : openCause s stateLen state ≡ answer.Accepted → senderLeft state (openSenderOf s rows) ≡ openSenderBytes settings state rows
+  unfolding settingsOf openSenderOf openSenderBytes
+  sender-uncaused none = go (openCause s (senderLen s) rows) refl
+    where
+      go : (f : Answer) → openCause s (senderLen s) rows ≡ f → senderLeft state (openSenderOf s rows) ≡ openSenderBytes settings state rows
+      go answer.Accepted e = rw (open-cause s (senderLen s) state rows, none, e, openSenderBytes, openSenderOf, e, openSenderOf)
+      go (answer.Refused c) e = rw (open-cause s (senderLen s) state rows, none, e, openSenderBytes, openSenderOf)
+
+  pub receiver-caused : (c : Cause) → openCause s stateLen state ≡ answer.Refused c
+      → record { reply = numberOf c; state = state; rows = rows } ≡ openReceiverBytes settings state rows
+  unfolding settingsOf openReceiverBytes
+  receiver-caused c e = rw (open-cause s (receiverLen s) state rows, e, openReceiverBytes)
+
+  pub receiver-uncaused : openCause s stateLen state ≡ answer.Accepted
+      → receiverLeft state (openReceiverOf s rows) ≡ openReceiverBytes settings state rows
+  unfolding settingsOf openReceiverOf openReceiverBytes
+  receiver-uncaused none = go (openCause s (receiverLen s) rows) refl
+    where
+      go : (f : Answer) → openCause s (receiverLen s) rows ≡ f
+          → receiverLeft state (openReceiverOf s rows) ≡ openReceiverBytes settings state rows
+      go answer.Accepted e = rw (open-cause s (receiverLen s) state rows, none, e, openReceiverBytes, openReceiverOf, e, openReceiverOf)
+      go (answer.Refused c) e = rw (open-cause s (receiverLen s) state rows, none, e, openReceiverBytes, openReceiverOf)
+
+-- ---- a send
+
+-- what protocol's send leaves of the lent lists
+abbrev pub sendLeft : List ℕ → Sent → Sending
+sendLeft state r = record {
+  reply = answerNumber (r .answer);
+  state = saved (taken (r .answer)) senderEnd (r .sender .settings) (r .sender .due) state;
+  rows = r .rows;
+  frame = r .frame;
+}
+
+module _ (state rows message frame : List ℕ) where
+  pub send-caused : (c : Cause) → stateCause senderEnd state ≡ answer.Refused c
+      → record { reply = numberOf c; state = state; rows = rows; frame = frame } ≡ sendBytes state rows message frame
+  unfolding sendBytes
+  send-caused c e = rw (send-cause state rows message frame, e, sendBytes)
+
+  pub send-uncaused : stateCause senderEnd state ≡ answer.Accepted
+      → sendLeft state (sendOf (senderIn state) rows message frame) ≡ sendBytes state rows message frame
+  unfolding sendOf sendBytes
+  send-uncaused none = go (sendCause (senderIn state) rows message frame) refl
+    where
+      go : (f : Answer) → sendCause (senderIn state) rows message frame ≡ f
+          → sendLeft state (sendOf (senderIn state) rows message frame) ≡ sendBytes state rows message frame
+      go answer.Accepted e = rw (send-cause state rows message frame, none, e, sendBytes, sendOf, e, sendOf)
+      go (answer.Refused c) e = rw (send-cause state rows message frame, none, e, sendBytes, sendOf)
+
+-- ---- reports
+
+-- what protocol's report leaves of the lent lists
+abbrev pub reportLeft : List ℕ → Reported → Reporting
+reportLeft state r = record {
+  reply = replyNumber (r .reply);
+  state = saved (accepts (r .reply)) receiverEnd (r .receiver .settings) (r .receiver .due) state;
+  rows = r .rows;
+  message = r .message;
+}
+
+module _ (state rows message : List ℕ) where
+  -- an accepted one writes the state
+  moved-left : (row : List ℕ) → let r : Reported = movedOn (receiverIn state) row rows in reportLeft state r ≡ reportedBytes r
+  moved-left row =
+      let r : Reported = movedOn (receiverIn state) row rows in
+      rw (is-true (accepts (r .reply)) (moved-accepts (receiverIn state) row rows)) refl
+
+  abbrev unreported : Cause → Reporting
+  unreported c = record { reply = numberOf c; state = state; rows = rows; message = message }
+
+  module _ (frame : List ℕ) where
+    pub heard-caused : (c : Cause) → stateCause receiverEnd state ≡ answer.Refused c → unreported c ≡ heardBytes state rows frame message
+    unfolding heardBytes
+    heard-caused c e = rw (heard-cause state rows message frame, e, heardBytes)
+
+    pub heard-uncaused : stateCause receiverEnd state ≡ answer.Accepted
+        → reportLeft state (heardOf (receiverIn state) rows frame message) ≡ heardBytes state rows frame message
+    unfolding heardOf heardBytes
+    heard-uncaused none = go (frameCause (receiverIn state) rows frame message) refl
+      where
+        go : (f : Answer) → frameCause (receiverIn state) rows frame message ≡ f
+            → reportLeft state (heardOf (receiverIn state) rows frame message) ≡ heardBytes state rows frame message
+        go answer.Accepted e =
+            rw (heard-cause state rows message frame, none, e, heardBytes, heardOf, e, heardOf) (moved-left (1 ∷ drop 14 frame))
+        go (answer.Refused c) e = rw (heard-cause state rows message frame, none, e, heardBytes, heardOf)
+
+  pub lost-caused : (c : Cause) → stateCause receiverEnd state ≡ answer.Refused c → unreported c ≡ lostBytes state rows message
+  unfolding lostBytes
+  lost-caused c e = rw (lost-cause state rows message, e, lostBytes)
+
+  pub lost-uncaused : stateCause receiverEnd state ≡ answer.Accepted
+      → reportLeft state (lossOf (receiverIn state) rows message) ≡ lostBytes state rows message
+  unfolding lossOf lostBytes
+  lost-uncaused none = go (lossCause (receiverIn state) rows message) refl
+    where
+      go : (f : Answer) → lossCause (receiverIn state) rows message ≡ f
+          → reportLeft state (lossOf (receiverIn state) rows message) ≡ lostBytes state rows message
+      go answer.Accepted e = rw (lost-cause state rows message, none, e, lostBytes, lossOf, e, lossOf) (moved-left _)
+      go (answer.Refused c) e = rw (lost-cause state rows message, none, e, lostBytes, lossOf)

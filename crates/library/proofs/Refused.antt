@@ -1,0 +1,136 @@
+-- Demand 1 of the static library: a call replies with a cause's number exactly if that cause is the first of its table that holds, and
+-- then it changes no lent byte.
+use mathlib.Core.Path.{_≡_, refl, sym, ap, _∙_}
+use mathlib.Core.Bool.{true}
+use mathlib.Core.List.{List}
+use Prim.Native.Nat.{ℕ}
+use Rattle.galois.proofs.Cases.{is-true}
+use Rattle.code.specs.declared.settings.Settings.{Settings}
+use Rattle.protocol.specs.declared.Receiver.{Receiver}
+use Rattle.protocol.specs.declared.Cause.{Cause}
+use Rattle.protocol.specs.declared.Answer.{Answer}
+use Rattle.protocol.specs.declared.Answer.the-variants as answer
+use Rattle.protocol.specs.Lengths.{senderLen, receiverLen}
+use Rattle.protocol.specs.Causes.{numberOf, openCause, sendCause, lossCause, frameCause}
+use Rattle.protocol.specs.Calls.{openSenderOf, openReceiverOf, sendOf, movedOn, heardOf, lossOf}
+use Rattle.protocol.specs.Numbers.{replyNumber}
+use Rattle.protocol.specs.Histories.{accepts}
+use Rattle.protocol.proofs.CauseTables.{second-clear}
+use Rattle.protocol.proofs.ReportRows.{moved-accepts}
+use Rattle.state.specs.State.{senderEnd, receiverEnd, stateLen, senderIn, receiverIn, stateCause}
+use Rattle.layout.specs.Numbers.{acceptance}
+use Rattle.layout.proofs.Refusals.{reply-accepted}
+use Rattle.library.specs.Causes.{openBytesTable, sendBytesTable, heardBytesTable, lostBytesTable}
+use Rattle.library.specs.Causes.{openBytesCause, sendBytesCause, heardBytesCause, lostBytesCause}
+use Rattle.library.specs.Calls.{settingsOf, Opening, openSenderBytes, openReceiverBytes, Sending, sendBytes, Reporting, heardBytes, lostBytes}
+use Rattle.library.specs.Refusals.{Demand1Bytes}
+use Rattle.library.proofs.Firsts.{Comes, refuses}
+use Rattle.library.proofs.Outcomes.{open-cause, send-cause, heard-cause, lost-cause}
+
+-- ---- the openings
+
+abbrev unopened : List ℕ → List ℕ → Cause → Opening
+unopened state rows c = record { reply = numberOf c; state = state; rows = rows }
+
+abbrev Opens : List ℕ → List ℕ → Opening → Answer → Type 0
+Opens state rows = Comes (λ (r : Opening). r .reply) (unopened state rows)
+
+module _ (settings state rows : List ℕ) where
+  abbrev s : Settings
+  s = settingsOf settings
+
+  sender-opens : (a : Answer) → openBytesCause s (senderLen s) state rows ≡ a → Opens state rows (openSenderBytes settings state rows) a
+  unfolding openSenderBytes openSenderOf
+  sender-opens answer.Accepted e =
+      let none = second-clear (openCause s stateLen state) (openCause s (senderLen s) rows) (sym (open-cause s (senderLen s) state rows) ∙ e) in
+      rw (e, openSenderBytes, none, openSenderOf)
+  sender-opens (answer.Refused c) e = rw (e, openSenderBytes)
+
+  receiver-opens : (a : Answer) → openBytesCause s (receiverLen s) state rows ≡ a → Opens state rows (openReceiverBytes settings state rows) a
+  unfolding openReceiverBytes openReceiverOf
+  receiver-opens answer.Accepted e =
+      let none = second-clear (openCause s stateLen state) (openCause s (receiverLen s) rows) (sym (open-cause s (receiverLen s) state rows) ∙ e) in
+      rw (e, openReceiverBytes, none, openReceiverOf)
+  receiver-opens (answer.Refused c) e = rw (e, openReceiverBytes)
+
+opening-stays : {state rows : List ℕ} {r : Opening} (c : Cause) → r ≡ unopened state rows c → (r .state ≡ state) × (r .rows ≡ rows)
+opening-stays c e = (ap (λ (r : Opening). r .state) e, ap (λ (r : Opening). r .rows) e)
+
+-- ---- a send
+
+abbrev unsent : List ℕ → List ℕ → List ℕ → Cause → Sending
+unsent state rows frame c = record { reply = numberOf c; state = state; rows = rows; frame = frame }
+
+sends : (state rows message frame : List ℕ) (a : Answer) → sendBytesCause state rows message frame ≡ a
+    → Comes (λ (r : Sending). r .reply) (unsent state rows frame) (sendBytes state rows message frame) a
+unfolding sendBytes sendOf
+sends state rows message frame answer.Accepted e =
+    let none = second-clear (stateCause senderEnd state) (sendCause (senderIn state) rows message frame) (sym (send-cause state rows message frame) ∙ e) in
+    rw (e, sendBytes, none, sendOf)
+sends state rows message frame (answer.Refused c) e = rw (e, sendBytes)
+
+send-stays : {state rows frame : List ℕ} {r : Sending} (c : Cause) → r ≡ unsent state rows frame c
+    → (r .state ≡ state) × (r .rows ≡ rows) × (r .frame ≡ frame)
+send-stays c e = (ap (λ (r : Sending). r .state) e, ap (λ (r : Sending). r .rows) e, ap (λ (r : Sending). r .frame) e)
+
+-- ---- reports
+
+abbrev unreported : List ℕ → List ℕ → List ℕ → Cause → Reporting
+unreported state rows message c = record { reply = numberOf c; state = state; rows = rows; message = message }
+
+abbrev Reports : List ℕ → List ℕ → List ℕ → Reporting → Answer → Type 0
+Reports state rows message = Comes (λ (r : Reporting). r .reply) (unreported state rows message)
+
+-- a report that moves the slot due on replies that it was accepted
+moved-reply : (x : Receiver) (row rows : List ℕ) → acceptance (replyNumber (movedOn x row rows .reply)) ≡ true
+moved-reply x row rows =
+    reply-accepted (movedOn x row rows .reply) ∙ is-true (accepts (movedOn x row rows .reply)) (moved-accepts x row rows)
+
+hears : (state rows frame message : List ℕ) (a : Answer) → heardBytesCause state rows frame message ≡ a
+    → Reports state rows message (heardBytes state rows frame message) a
+unfolding heardBytes heardOf
+hears state rows frame message answer.Accepted e =
+    let none = second-clear (stateCause receiverEnd state) (frameCause (receiverIn state) rows frame message) (sym (heard-cause state rows message frame) ∙ e) in
+    rw (e, heardBytes, none, heardOf) (moved-reply (receiverIn state) _ rows)
+hears state rows frame message (answer.Refused c) e = rw (e, heardBytes)
+
+loses : (state rows message : List ℕ) (a : Answer) → lostBytesCause state rows message ≡ a
+    → Reports state rows message (lostBytes state rows message) a
+unfolding lostBytes lossOf
+loses state rows message answer.Accepted e =
+    let none = second-clear (stateCause receiverEnd state) (lossCause (receiverIn state) rows message) (sym (lost-cause state rows message) ∙ e) in
+    rw (e, lostBytes, none, lossOf) (moved-reply (receiverIn state) _ rows)
+loses state rows message (answer.Refused c) e = rw (e, lostBytes)
+
+report-stays : {state rows message : List ℕ} {r : Reporting} (c : Cause) → r ≡ unreported state rows message c
+    → (r .state ≡ state) × (r .rows ≡ rows) × (r .message ≡ message)
+report-stays c e = (ap (λ (r : Reporting). r .state) e, ap (λ (r : Reporting). r .rows) e, ap (λ (r : Reporting). r .message) e)
+
+-- ---- demand 1
+
+pub demand1-bytes : Demand1Bytes
+unfolding openBytesCause sendBytesCause heardBytesCause lostBytesCause
+demand1-bytes = record {
+  open-sender = λ settings state rows.
+      let s : Settings = settingsOf settings in
+      refuses (λ (r : Opening). r .reply) (unopened state rows) (openSenderBytes settings state rows) (λ c. refl)
+      (openBytesTable s (senderLen s) state rows)
+      (sender-opens settings state rows (openBytesCause s (senderLen s) state rows) refl) opening-stays;
+  open-receiver = λ settings state rows.
+      let s : Settings = settingsOf settings in
+      refuses (λ (r : Opening). r .reply) (unopened state rows) (openReceiverBytes settings state rows) (λ c. refl)
+      (openBytesTable s (receiverLen s) state rows)
+      (receiver-opens settings state rows (openBytesCause s (receiverLen s) state rows) refl) opening-stays;
+  send = λ state rows message frame.
+      refuses (λ (r : Sending). r .reply) (unsent state rows frame) (sendBytes state rows message frame) (λ c. refl)
+      (sendBytesTable state rows message frame)
+      (sends state rows message frame (sendBytesCause state rows message frame) refl) send-stays;
+  heard = λ state rows frame message.
+      refuses (λ (r : Reporting). r .reply) (unreported state rows message) (heardBytes state rows frame message) (λ c. refl)
+      (heardBytesTable state rows frame message)
+      (hears state rows frame message (heardBytesCause state rows frame message) refl) report-stays;
+  lost = λ state rows message.
+      refuses (λ (r : Reporting). r .reply) (unreported state rows message) (lostBytes state rows message) (λ c. refl)
+      (lostBytesTable state rows message)
+      (loses state rows message (lostBytesCause state rows message) refl) report-stays;
+}

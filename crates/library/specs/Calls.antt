@@ -1,0 +1,127 @@
+-- Each call of the static library, as a function of every lent list. Refused for its first cause, it changes nothing; else it is protocol's
+-- call on the state that the bytes keep, and the next state is written over them.
+use mathlib.Core.Bool.{cond}
+use mathlib.Core.List.{List}
+use Prim.Native.Nat.{ℕ}
+use Rattle.code.specs.declared.settings.Settings.{Settings}
+use Rattle.code.specs.Settings.{accepted}
+use Rattle.protocol.specs.Lengths.{senderLen, receiverLen}
+use Rattle.protocol.specs.declared.Answer.the-variants as answer
+use Rattle.protocol.specs.Causes.{numberOf}
+use Rattle.protocol.specs.Calls.{OpenedSender, OpenedReceiver, Sent, Reported, openSenderOf, sendOf, openReceiverOf, heardOf, lossOf}
+use Rattle.frames.specs.Fields.{settingsAt}
+use Rattle.state.specs.State.{senderBytes, receiverBytes, senderIn, receiverIn}
+use Rattle.protocol.specs.Numbers.{answerNumber, replyNumber}
+use Rattle.library.specs.Causes.{openBytesCause, sendBytesCause, heardBytesCause, lostBytesCause}
+
+-- ---- lengths
+
+-- the settings that a caller lends
+unfoldable pub settingsOf : List ℕ → Settings
+settingsOf settings = settingsAt 0 settings
+
+-- the length that settings give, or 0 where they are not accepted
+unfoldable pub lengthFor : (Settings → ℕ) → List ℕ → ℕ
+lengthFor size settings = cond (accepted (settingsOf settings)) (size (settingsOf settings)) 0
+
+-- ---- openings
+
+-- an opening's reply number, and what it leaves of the lent lists
+pub record Opening : Type 0 where
+  pub reply : ℕ
+  pub state : List ℕ
+  pub rows : List ℕ
+
+-- what an opening of a sender leaves, by protocol's
+abbrev pub openedSender : OpenedSender → Opening
+openedSender r = record {
+  reply = answerNumber (r .answer);
+  state = senderBytes (r .sender);
+  rows = r .rows;
+}
+
+-- the opening of a sender
+unfoldable pub openSenderBytes : List ℕ → List ℕ → List ℕ → Opening
+openSenderBytes settings state rows =
+    let s : Settings = settingsOf settings in
+    elim (openBytesCause s (senderLen s) state rows) [
+      | answer.Refused c ↦ record { reply = numberOf c; state = state; rows = rows }
+      | answer.Accepted ↦ openedSender (openSenderOf s rows)
+    ]
+
+-- what an opening of a receiver leaves, by protocol's
+abbrev pub openedReceiver : OpenedReceiver → Opening
+openedReceiver r = record {
+  reply = answerNumber (r .answer);
+  state = receiverBytes (r .receiver);
+  rows = r .rows;
+}
+
+-- the opening of a receiver
+unfoldable pub openReceiverBytes : List ℕ → List ℕ → List ℕ → Opening
+openReceiverBytes settings state rows =
+    let s : Settings = settingsOf settings in
+    elim (openBytesCause s (receiverLen s) state rows) [
+      | answer.Refused c ↦ record { reply = numberOf c; state = state; rows = rows }
+      | answer.Accepted ↦ openedReceiver (openReceiverOf s rows)
+    ]
+
+-- ---- sends
+
+-- a send's reply number, and what it leaves of the lent lists
+pub record Sending : Type 0 where
+  pub reply : ℕ
+  pub state : List ℕ
+  pub rows : List ℕ
+  pub frame : List ℕ
+
+-- what a send leaves, by protocol's
+abbrev pub sentBytes : Sent → Sending
+sentBytes r = record {
+  reply = answerNumber (r .answer);
+  state = senderBytes (r .sender);
+  rows = r .rows;
+  frame = r .frame;
+}
+
+-- a send of the sender that the state keeps
+unfoldable pub sendBytes : List ℕ → List ℕ → List ℕ → List ℕ → Sending
+sendBytes state rows message frame =
+    elim (sendBytesCause state rows message frame) [
+      | answer.Refused c ↦ record { reply = numberOf c; state = state; rows = rows; frame = frame }
+      | answer.Accepted ↦ sentBytes (sendOf (senderIn state) rows message frame)
+    ]
+
+-- ---- reports
+
+-- a report's reply number, and what it leaves of the lent lists
+pub record Reporting : Type 0 where
+  pub reply : ℕ
+  pub state : List ℕ
+  pub rows : List ℕ
+  pub message : List ℕ
+
+-- what a report leaves, by protocol's
+abbrev pub reportedBytes : Reported → Reporting
+reportedBytes r = record {
+  reply = replyNumber (r .reply);
+  state = receiverBytes (r .receiver);
+  rows = r .rows;
+  message = r .message;
+}
+
+-- the report of a frame to the receiver that the state keeps
+unfoldable pub heardBytes : List ℕ → List ℕ → List ℕ → List ℕ → Reporting
+heardBytes state rows frame message =
+    elim (heardBytesCause state rows frame message) [
+      | answer.Refused c ↦ record { reply = numberOf c; state = state; rows = rows; message = message }
+      | answer.Accepted ↦ reportedBytes (heardOf (receiverIn state) rows frame message)
+    ]
+
+-- the report of a loss to the receiver that the state keeps
+unfoldable pub lostBytes : List ℕ → List ℕ → List ℕ → Reporting
+lostBytes state rows message =
+    elim (lostBytesCause state rows message) [
+      | answer.Refused c ↦ record { reply = numberOf c; state = state; rows = rows; message = message }
+      | answer.Accepted ↦ reportedBytes (lossOf (receiverIn state) rows message)
+    ]

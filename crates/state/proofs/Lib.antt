@@ -1,0 +1,3 @@
+-- The laws of a state as bytes.
+pub mod StateBytes
+pub mod KeptStates

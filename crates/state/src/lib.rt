@@ -1,0 +1,109 @@
+// The state that a caller keeps between calls: read, refused, and written.
+use buffers::write_at;
+use code::Settings;
+use frames::settings_at;
+use frames::slot_at;
+use protocol::Answer;
+use protocol::Cause;
+use protocol::Receiver;
+use protocol::Sender;
+ghost use mathlib.Core.Path.{_≡_};
+ghost use Prim.Native.Nat.{_≤_};
+ghost use lib.ListN.{length};
+ghost use Rattle.protocol.specs.Causes.{agree};
+ghost use Rattle.state.specs.State.{markOf, stateBytes, stateLen, saved};
+ghost use Rattle.state.specs.State.{senderIn, receiverIn, stateCause};
+
+// The length of a state.
+pub const STATE_LEN: usize = 13;
+
+// The letter of the end that a state is of: `S` for a sender.
+pub const SENDER_END: u8 = 0x53;
+
+// And `R` for a receiver.
+pub const RECEIVER_END: u8 = 0x52;
+
+// The sender that a state keeps.
+pub fn sender_in(state: &[u8]) -> Sender
+    requires { ⌜ stateLen ≤ length (now state) ⌝ }
+    ensures { λ r. ⌜ r ≡ senderIn (now (state .entry)) ⌝ }
+{
+    Sender::at(settings_at(state, 4), slot_at(state, 9))
+}
+
+// The receiver that a state keeps.
+pub fn receiver_in(state: &[u8]) -> Receiver
+    requires { ⌜ stateLen ≤ length (now state) ⌝ }
+    ensures { λ r. ⌜ r ≡ receiverIn (now (state .entry)) ⌝ }
+{
+    Receiver::at(settings_at(state, 4), slot_at(state, 9))
+}
+
+// The mark of a state of this end.
+fn mark_of(end: u8) -> [u8; 4]
+    ensures { λ r. ⌜ r ≡ markOf end ⌝ }
+{
+    [0x54, 0x4f, 0x42, end]
+}
+
+// Whether the bytes begin with the mark of this end.
+fn is_marked(end: u8, bytes: &[u8]) -> bool
+    requires { ⌜ 4 ≤ length (now bytes) ⌝ }
+    ensures { λ r. ⌜ r ≡ agree 4 (now (bytes .entry)) (markOf end) ⌝ }
+{
+    let mark = mark_of(end);
+    let mut i: usize = 0;
+    while i < 4 {
+        if bytes[i] != mark[i] {
+            return false;
+        }
+        i += 1;
+    }
+    true
+}
+
+// The first cause that a state of this end gives, before those of the call on what it keeps.
+pub fn state_cause(end: u8, state: &[u8]) -> Answer
+    ensures { λ r. ⌜ r ≡ stateCause end (now (state .entry)) ⌝ }
+{
+    if state.len() != STATE_LEN {
+        return Answer::Refused(Cause::BadLength);
+    }
+    if !is_marked(end, state) {
+        return Answer::Refused(Cause::BadSettings);
+    }
+    Answer::Accepted
+}
+
+// A state, byte by byte.
+fn state_bytes(end: u8, s: Settings, due: u32) -> [u8; STATE_LEN]
+    ensures { λ r. ⌜ r ≡ stateBytes end s due ⌝ }
+{
+    let mark = mark_of(end);
+    [
+        mark[0],
+        mark[1],
+        mark[2],
+        mark[3],
+        s.window,
+        s.delay,
+        s.burst,
+        s.scattered,
+        s.lanes,
+        (due / 16777216 % 256) as u8,
+        (due / 65536 % 256) as u8,
+        (due / 256 % 256) as u8,
+        (due % 256) as u8,
+    ]
+}
+
+// Writes the state where the call was taken; else it stays as it was.
+pub fn save(taken: bool, end: u8, s: Settings, due: u32, state: &mut [u8])
+    requires { ⌜ length (now state) ≡ stateLen ⌝ }
+    ensures { λ _. ⌜ now (state .exit) ≡ saved taken end s due (now (state .entry)) ⌝ }
+{
+    if taken {
+        let bytes = state_bytes(end, s, due);
+        write_at(state, 0, &bytes);
+    }
+}
