@@ -181,7 +181,7 @@ module _ (state rows : List ℕ) (none : stateCause receiverEnd state ≡ answer
   moved-next row before =
       let r : Reported = movedOn y row rows in
       let passed : accepts (r .reply) ≡ true = is-true (accepts (r .reply)) (moved-accepts y row rows) in (
-        subst⁻¹ (λ (t : Bool). KeepsReceiver (saved t receiverEnd (y .settings) (y .due + 1) state) (r .receiver)) passed
+        subst⁻¹ (λ (t : Bool). KeepsReceiver (saved t (receiverBytes (reportedOn y)) state) (r .receiver)) passed
             (kept-receiver (reportedOn y) (omega arith)),
         ap (λ (t : Bool). cond t (y .due + 1) (y .due)) (sym (reply-accepted (r .reply) ∙ passed)),
       )

@@ -19,7 +19,7 @@ use Rattle.protocol.specs.Histories.{accepts}
 use Rattle.protocol.proofs.CauseTables.{none-holds, followedBy, one-below, passes}
 use Rattle.protocol.proofs.ReportRows.{moved-accepts}
 use Rattle.frames.specs.Fields.{settingsAt}
-use Rattle.state.specs.State.{senderEnd, receiverEnd, saved, stateLen, senderIn, receiverIn, stateTable, stateCause}
+use Rattle.state.specs.State.{senderEnd, receiverEnd, senderBytes, receiverBytes, saved, stateLen, senderIn, receiverIn, stateTable, stateCause}
 use Rattle.protocol.specs.Numbers.{answerNumber, replyNumber}
 use Rattle.layout.specs.Numbers.{taken}
 use Rattle.library.specs.Causes.{openBytesCause, sendBytesCause, heardBytesCause, lostBytesCause}
@@ -77,7 +77,7 @@ opened-length s state none =
 abbrev pub senderLeft : List ℕ → OpenedSender → Opening
 senderLeft state r = record {
   reply = answerNumber (r .answer);
-  state = saved (taken (r .answer)) senderEnd (r .sender .settings) (r .sender .due) state;
+  state = saved (taken (r .answer)) (senderBytes (r .sender)) state;
   rows = r .rows;
 }
 
@@ -85,7 +85,7 @@ senderLeft state r = record {
 abbrev pub receiverLeft : List ℕ → OpenedReceiver → Opening
 receiverLeft state r = record {
   reply = answerNumber (r .answer);
-  state = saved (taken (r .answer)) receiverEnd (r .receiver .settings) (r .receiver .due) state;
+  state = saved (taken (r .answer)) (receiverBytes (r .receiver)) state;
   rows = r .rows;
 }
 
@@ -127,7 +127,7 @@ module _ (settings state rows : List ℕ) where
 abbrev pub sendLeft : List ℕ → Sent → Sending
 sendLeft state r = record {
   reply = answerNumber (r .answer);
-  state = saved (taken (r .answer)) senderEnd (r .sender .settings) (r .sender .due) state;
+  state = saved (taken (r .answer)) (senderBytes (r .sender)) state;
   rows = r .rows;
   frame = r .frame;
 }
@@ -154,7 +154,7 @@ module _ (state rows message frame : List ℕ) where
 abbrev pub reportLeft : List ℕ → Reported → Reporting
 reportLeft state r = record {
   reply = replyNumber (r .reply);
-  state = saved (accepts (r .reply)) receiverEnd (r .receiver .settings) (r .receiver .due) state;
+  state = saved (accepts (r .reply)) (receiverBytes (r .receiver)) state;
   rows = r .rows;
   message = r .message;
 }

@@ -43,9 +43,9 @@ receiverBytes x = stateBytes receiverEnd (x .settings) (x .due)
 abbrev pub stateLen : ℕ
 stateLen = 13
 
--- the state after a call: written where the call was taken, else as it was
-abbrev pub saved : Bool → ℕ → Settings → ℕ → List ℕ → List ℕ
-saved taken end s due state = cond taken (stateBytes end s due) state
+-- the state after a call: these bytes where the call was taken, else as it was
+abbrev pub saved : Bool → List ℕ → List ℕ → List ℕ
+saved taken bytes state = cond taken bytes state
 
 -- ---- what is read
 

@@ -11,7 +11,7 @@ ghost use mathlib.Core.Path.{_≡_};
 ghost use Prim.Native.Nat.{_≤_};
 ghost use lib.ListN.{length};
 ghost use Rattle.protocol.specs.Causes.{agree};
-ghost use Rattle.state.specs.State.{markOf, stateBytes, stateLen, saved};
+ghost use Rattle.state.specs.State.{markOf, stateBytes, senderBytes, receiverBytes, stateLen, saved};
 ghost use Rattle.state.specs.State.{senderIn, receiverIn, stateCause};
 
 // The length of a state.
@@ -97,13 +97,26 @@ fn state_bytes(end: u8, s: Settings, due: u32) -> [u8; STATE_LEN]
     ]
 }
 
-// Writes the state where the call was taken; else it stays as it was.
-pub fn save(taken: bool, end: u8, s: Settings, due: u32, state: &mut [u8])
+// The state of this sender.
+pub fn sender_bytes(x: Sender) -> [u8; STATE_LEN]
+    ensures { λ r. ⌜ r ≡ senderBytes x ⌝ }
+{
+    state_bytes(SENDER_END, x.settings, x.due)
+}
+
+// The state of this receiver.
+pub fn receiver_bytes(x: Receiver) -> [u8; STATE_LEN]
+    ensures { λ r. ⌜ r ≡ receiverBytes x ⌝ }
+{
+    state_bytes(RECEIVER_END, x.settings, x.due)
+}
+
+// Writes these bytes over the state where the call was taken; else it stays as it was.
+pub fn save(taken: bool, bytes: [u8; STATE_LEN], state: &mut [u8])
     requires { ⌜ length (now state) ≡ stateLen ⌝ }
-    ensures { λ _. ⌜ now (state .exit) ≡ saved taken end s due (now (state .entry)) ⌝ }
+    ensures { λ _. ⌜ now (state .exit) ≡ saved taken bytes (now (state .entry)) ⌝ }
 {
     if taken {
-        let bytes = state_bytes(end, s, due);
         write_at(state, 0, &bytes);
     }
 }

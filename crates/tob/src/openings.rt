@@ -5,9 +5,9 @@ use layout::save_answer;
 use protocol::Answer;
 use protocol::Cause;
 use protocol::number_of;
-use state::RECEIVER_END;
-use state::SENDER_END;
 use state::STATE_LEN;
+use state::receiver_bytes;
+use state::sender_bytes;
 ghost use mathlib.Core.Path.{_≡_};
 ghost use Rattle.protocol.specs.Causes.{openCause};
 ghost use Rattle.state.specs.State.{stateLen};
@@ -40,7 +40,7 @@ pub extern "C" fn tob_open_sender(settings: &[u8; 5], state: &mut [u8], rows: &m
     let r = sender::open(s, rows);
     let answer = r.answer;
     let x = r.sender;
-    save_answer(answer, SENDER_END, x.settings, x.due, state)
+    save_answer(answer, sender_bytes(x), state)
 }
 
 // Opens a receiver: writes its state, and makes its rows received zeros.
@@ -57,5 +57,5 @@ pub extern "C" fn tob_open_receiver(settings: &[u8; 5], state: &mut [u8], rows: 
     let r = receiver::open(s, rows);
     let answer = r.answer;
     let x = r.receiver;
-    save_answer(answer, RECEIVER_END, x.settings, x.due, state)
+    save_answer(answer, receiver_bytes(x), state)
 }

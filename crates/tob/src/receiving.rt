@@ -3,6 +3,7 @@ use layout::save_reply;
 use protocol::Answer;
 use protocol::number_of;
 use state::RECEIVER_END;
+use state::receiver_bytes;
 use state::receiver_in;
 use state::state_cause;
 ghost use mathlib.Core.Path.{_≡_};
@@ -26,7 +27,7 @@ pub extern "C" fn tob_heard(
     let r = receiver::heard(receiver_in(state), rows, frame, message);
     let reply = r.reply;
     let x = r.receiver;
-    save_reply(reply, x.settings, x.due, state)
+    save_reply(reply, receiver_bytes(x), state)
 }
 
 // The report that the slot due was lost.
@@ -42,5 +43,5 @@ pub extern "C" fn tob_lost(state: &mut [u8], rows: &mut [u8], message: &mut [u8]
     let r = receiver::loss(receiver_in(state), rows, message);
     let reply = r.reply;
     let x = r.receiver;
-    save_reply(reply, x.settings, x.due, state)
+    save_reply(reply, receiver_bytes(x), state)
 }

@@ -3,6 +3,7 @@ use layout::save_answer;
 use protocol::Answer;
 use protocol::number_of;
 use state::SENDER_END;
+use state::sender_bytes;
 use state::sender_in;
 use state::state_cause;
 ghost use mathlib.Core.Path.{_≡_};
@@ -26,5 +27,5 @@ pub extern "C" fn tob_send(
     let r = sender::send(sender_in(state), rows, message, frame);
     let answer = r.answer;
     let x = r.sender;
-    save_answer(answer, SENDER_END, x.settings, x.due, state)
+    save_answer(answer, sender_bytes(x), state)
 }

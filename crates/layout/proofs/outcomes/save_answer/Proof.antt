@@ -13,7 +13,7 @@ returns c =
     let at-taken = at-save .before .before in
     let a = at-taken .before .before .args in (
       c .answer-number .ensures,
-      at-save .save .ensures ∙ ap (λ (t : Bool). saved t (a .end) (a .s) (a .due) (now (a .state))) (at-taken .answer-taken .ensures),
+      at-save .save .ensures ∙ ap (λ (t : Bool). saved t (a .bytes) (now (a .state))) (at-taken .answer-taken .ensures),
     )
 
 pub save-answer-spec : {M : Type 1} → statement M

@@ -3,7 +3,7 @@ use borrow.Author.Needs.{needs}
 use mathlib.Core.Path.{ap, _∙_}
 use mathlib.Core.Bool.{Bool}
 use denote.Ref.{now}
-use Rattle.state.specs.State.{receiverEnd, saved}
+use Rattle.state.specs.State.{saved}
 use Rattle.layout.proofs.outcomes.save_reply.Statement.{statement}
 use Rattle.layout.proofs.outcomes.save_reply.Tie as tie
 
@@ -13,7 +13,7 @@ returns c =
     let at-taken = at-save .before .before in
     let a = at-taken .before .before .args in (
       c .reply-number .ensures,
-      at-save .save .ensures ∙ ap (λ (t : Bool). saved t receiverEnd (a .s) (a .due) (now (a .state))) (at-taken .reply-taken .ensures),
+      at-save .save .ensures ∙ ap (λ (t : Bool). saved t (a .bytes) (now (a .state))) (at-taken .reply-taken .ensures),
     )
 
 pub save-reply-spec : {M : Type 1} → statement M

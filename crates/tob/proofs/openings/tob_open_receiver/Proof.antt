@@ -9,7 +9,8 @@ use Rattle.protocol.specs.declared.Answer.the-variants as answer
 use Rattle.protocol.specs.Causes.{openCause}
 use Rattle.protocol.specs.Calls.{openReceiverOf}
 use Rattle.frames.specs.Fields.{settingsAt}
-use Rattle.state.specs.State.{stateLen}
+use Rattle.state.specs.State.{stateLen, saved}
+use Rattle.layout.specs.Numbers.{taken}
 use Rattle.library.specs.Calls.{Opening}
 use Rattle.library.proofs.Outcomes.{opened-length, receiverLeft, receiver-caused, receiver-uncaused}
 use Rattle.tob.proofs.openings.tob_open_receiver.Statement.{statement}
@@ -46,8 +47,8 @@ uncaused : (c : tie.After-enum-told)
 uncaused c = sym (looked (c .before .before)) ∙ c .enum-told .given .1
 
 -- the place after the test, from the one before the state is written
-abbrev opened : tie.After-x → tie.After-open
-opened c = c .before .before .before
+abbrev opened : tie.After-receiver-bytes → tie.After-open
+opened c = c .before .before .before .before
 
 abbrev first : tie.After-open → tie.After-enum-told
 first c = c .before .before
@@ -61,10 +62,13 @@ save-answer-requires c κs =
 returns-2 : tie.Need-returns-2
 returns-2 c =
     let at-save = c .before .before in
-    let at-open = opened (at-save .before .before) in
+    let made = at-save .before .before in
+    let at-open = opened made in
     let one = first at-open in
     let a = begun one .args in
-    ap₂ (outcome _) (at-save .save-answer .ensures .0) (at-save .save-answer .ensures .1)
+    ap₂ (outcome _) (at-save .save-answer .ensures .0)
+    (at-save .save-answer .ensures .1
+    ∙ ap (λ (bytes : List ℕ). saved (taken (at-open .open .result .answer)) bytes (now (a .state))) (made .receiver-bytes .ensures))
     ∙ ap (receiverLeft (now (a .state)))
     (at-open .open .ensures ∙ ap (λ (s : Settings). openReceiverOf s (now (a .rows))) (one .before .before .before .before .settings-at .ensures))
     ∙ receiver-uncaused (now (a .settings)) (now (a .state)) (now (a .rows)) (uncaused one)
@@ -80,6 +84,7 @@ tob-open-receiver-spec =
     (λ c. search needs)
     returns
     (λ c. search needs)
+    (λ c κs. search needs)
     (λ c κs. search needs)
     save-answer-requires
     (λ c. search needs)

@@ -8,8 +8,9 @@ use denote.Ref.{now}
 use lib.ListN.{length}
 use Rattle.protocol.specs.declared.Receiver.{Receiver}
 use Rattle.protocol.specs.declared.Answer.the-variants as answer
+use Rattle.protocol.specs.Histories.{accepts}
 use Rattle.protocol.specs.Calls.{lossOf}
-use Rattle.state.specs.State.{receiverEnd, stateLen, stateCause}
+use Rattle.state.specs.State.{receiverEnd, stateLen, saved, stateCause}
 use Rattle.state.proofs.KeptStates.{uncaused-length}
 use Rattle.library.specs.Calls.{Reporting}
 use Rattle.library.proofs.Outcomes.{reportLeft, lost-caused, lost-uncaused}
@@ -46,16 +47,19 @@ abbrev first : tie.After-loss → tie.After-enum-told
 first c = c .before .before .before .before .before
 
 -- the place after the call, from the one before the state is written
-abbrev called : tie.After-x → tie.After-loss
-called c = c .before .before .before .before .before
+abbrev called : tie.After-receiver-bytes → tie.After-loss
+called c = c .before .before .before .before .before .before
 
 returns-2 : tie.Need-returns-2
 returns-2 c =
     let at-save = c .before .before in
-    let at-call = called (at-save .before .before) in
+    let made = at-save .before .before in
+    let at-call = called made in
     let one = first at-call in
     let a = begun one .args in
-    ap₂ (outcome _ _) (at-save .save-reply .ensures .0) (at-save .save-reply .ensures .1)
+    ap₂ (outcome _ _) (at-save .save-reply .ensures .0)
+    (at-save .save-reply .ensures .1
+    ∙ ap (λ (bytes : List ℕ). saved (accepts (at-call .loss .result .reply)) bytes (now (a .state))) (made .receiver-bytes .ensures))
     ∙ ap (reportLeft (now (a .state)))
     (at-call .loss .ensures
     ∙ ap (λ (x : Receiver). lossOf x (now (a .rows)) (now (a .message))) (at-call .before .before .before .receiver-in .ensures))
@@ -72,6 +76,7 @@ tob-lost-spec =
     returns
     (λ c. search needs)
     (λ c κs. omega (arith, sized (c .before)))
+    (λ c κs. search needs)
     (λ c κs. search needs)
     (λ c κs. sized (first (called (c .before))))
     (λ c. search needs)

@@ -9,7 +9,8 @@ use lib.ListN.{length}
 use Rattle.protocol.specs.declared.Sender.{Sender}
 use Rattle.protocol.specs.declared.Answer.the-variants as answer
 use Rattle.protocol.specs.Calls.{sendOf}
-use Rattle.state.specs.State.{senderEnd, stateLen, stateCause}
+use Rattle.state.specs.State.{senderEnd, stateLen, saved, stateCause}
+use Rattle.layout.specs.Numbers.{taken}
 use Rattle.state.proofs.KeptStates.{uncaused-length}
 use Rattle.library.specs.Calls.{Sending}
 use Rattle.library.proofs.Outcomes.{sendLeft, send-caused, send-uncaused}
@@ -46,16 +47,19 @@ abbrev first : tie.After-send → tie.After-enum-told
 first c = c .before .before .before .before .before
 
 -- the place after the call, from the one before the state is written
-abbrev called : tie.After-x → tie.After-send
-called c = c .before .before .before .before .before
+abbrev called : tie.After-sender-bytes → tie.After-send
+called c = c .before .before .before .before .before .before
 
 returns-2 : tie.Need-returns-2
 returns-2 c =
     let at-save = c .before .before in
-    let at-call = called (at-save .before .before) in
+    let made = at-save .before .before in
+    let at-call = called made in
     let one = first at-call in
     let a = begun one .args in
-    ap₂ (outcome _ _) (at-save .save-answer .ensures .0) (at-save .save-answer .ensures .1)
+    ap₂ (outcome _ _) (at-save .save-answer .ensures .0)
+    (at-save .save-answer .ensures .1
+    ∙ ap (λ (bytes : List ℕ). saved (taken (at-call .send .result .answer)) bytes (now (a .state))) (made .sender-bytes .ensures))
     ∙ ap (sendLeft (now (a .state)))
     (at-call .send .ensures
     ∙ ap (λ (x : Sender). sendOf x (now (a .rows)) (now (a .message)) (now (a .frame))) (at-call .before .before .before .sender-in .ensures))
@@ -72,6 +76,7 @@ tob-send-spec =
     returns
     (λ c. search needs)
     (λ c κs. omega (arith, sized (c .before)))
+    (λ c κs. search needs)
     (λ c κs. search needs)
     (λ c κs. sized (first (called (c .before))))
     (λ c. search needs)
