@@ -1,6 +1,5 @@
 -- The laws of the calls, and what the proofs of the functions cite.
 pub mod Outcomes
-pub mod Firsts
 pub mod Refused
 pub mod Chains
 pub mod Partners

@@ -1,30 +1,23 @@
 -- Demand 1 of the static library: a call replies with a cause's number exactly if that cause is the first of its table that holds, and
 -- then it changes no lent byte.
 use mathlib.Core.Path.{_≡_, refl, sym, ap, _∙_}
-use mathlib.Core.Bool.{true}
 use mathlib.Core.List.{List}
 use Prim.Native.Nat.{ℕ}
-use Rattle.galois.proofs.Cases.{is-true}
 use Rattle.code.specs.declared.settings.Settings.{Settings}
-use Rattle.protocol.specs.declared.Receiver.{Receiver}
 use Rattle.protocol.specs.declared.Cause.{Cause}
 use Rattle.protocol.specs.declared.Answer.{Answer}
 use Rattle.protocol.specs.declared.Answer.the-variants as answer
 use Rattle.protocol.specs.Lengths.{senderLen, receiverLen}
-use Rattle.protocol.specs.Causes.{numberOf, openCause, sendCause, lossCause, frameCause}
-use Rattle.protocol.specs.Calls.{openSenderOf, openReceiverOf, sendOf, movedOn, heardOf, lossOf}
-use Rattle.protocol.specs.Numbers.{replyNumber}
-use Rattle.protocol.specs.Histories.{accepts}
+use Rattle.protocol.specs.Causes.{numberOf, Row, firstOf, openCause, sendCause, lossCause, frameCause}
+use Rattle.protocol.specs.Calls.{openSenderOf, openReceiverOf, sendOf, heardOf, lossOf}
 use Rattle.protocol.proofs.CauseTables.{second-clear}
-use Rattle.protocol.proofs.ReportRows.{moved-accepts}
+use Rattle.protocol.proofs.NumberLaws.{accepted-number}
+use Rattle.protocol.proofs.Refusals.{Comes, number-first, number-refused, moved-number}
 use Rattle.state.specs.State.{senderEnd, receiverEnd, stateLen, senderIn, receiverIn, stateCause}
-use Rattle.layout.specs.Numbers.{acceptance}
-use Rattle.layout.proofs.Refusals.{reply-accepted}
 use Rattle.library.specs.Causes.{openBytesTable, sendBytesTable, heardBytesTable, lostBytesTable}
 use Rattle.library.specs.Causes.{openBytesCause, sendBytesCause, heardBytesCause, lostBytesCause}
 use Rattle.library.specs.Calls.{settingsOf, Opening, openSenderBytes, openReceiverBytes, Sending, sendBytes, Reporting, heardBytes, lostBytes}
-use Rattle.library.specs.Refusals.{Demand1Bytes}
-use Rattle.library.proofs.Firsts.{Comes, refuses}
+use Rattle.library.specs.Refusals.{RefusesBytes, Demand1Bytes}
 use Rattle.library.proofs.Outcomes.{open-cause, send-cause, heard-cause, lost-cause}
 
 -- ---- the openings
@@ -43,14 +36,14 @@ module _ (settings state rows : List ℕ) where
   unfolding openSenderBytes openSenderOf
   sender-opens answer.Accepted e =
       let none = second-clear (openCause s stateLen state) (openCause s (senderLen s) rows) (sym (open-cause s (senderLen s) state rows) ∙ e) in
-      rw (e, openSenderBytes, none, openSenderOf)
+      rw (e, openSenderBytes, none, openSenderOf) accepted-number
   sender-opens (answer.Refused c) e = rw (e, openSenderBytes)
 
   receiver-opens : (a : Answer) → openBytesCause s (receiverLen s) state rows ≡ a → Opens state rows (openReceiverBytes settings state rows) a
   unfolding openReceiverBytes openReceiverOf
   receiver-opens answer.Accepted e =
       let none = second-clear (openCause s stateLen state) (openCause s (receiverLen s) rows) (sym (open-cause s (receiverLen s) state rows) ∙ e) in
-      rw (e, openReceiverBytes, none, openReceiverOf)
+      rw (e, openReceiverBytes, none, openReceiverOf) accepted-number
   receiver-opens (answer.Refused c) e = rw (e, openReceiverBytes)
 
 opening-stays : {state rows : List ℕ} {r : Opening} (c : Cause) → r ≡ unopened state rows c → (r .state ≡ state) × (r .rows ≡ rows)
@@ -66,7 +59,7 @@ sends : (state rows message frame : List ℕ) (a : Answer) → sendBytesCause st
 unfolding sendBytes sendOf
 sends state rows message frame answer.Accepted e =
     let none = second-clear (stateCause senderEnd state) (sendCause (senderIn state) rows message frame) (sym (send-cause state rows message frame) ∙ e) in
-    rw (e, sendBytes, none, sendOf)
+    rw (e, sendBytes, none, sendOf) accepted-number
 sends state rows message frame (answer.Refused c) e = rw (e, sendBytes)
 
 send-stays : {state rows frame : List ℕ} {r : Sending} (c : Cause) → r ≡ unsent state rows frame c
@@ -81,17 +74,12 @@ unreported state rows message c = record { reply = numberOf c; state = state; ro
 abbrev Reports : List ℕ → List ℕ → List ℕ → Reporting → Answer → Type 0
 Reports state rows message = Comes (λ (r : Reporting). r .reply) (unreported state rows message)
 
--- a report that moves the slot due on replies that it was accepted
-moved-reply : (x : Receiver) (row rows : List ℕ) → acceptance (replyNumber (movedOn x row rows .reply)) ≡ true
-moved-reply x row rows =
-    reply-accepted (movedOn x row rows .reply) ∙ is-true (accepts (movedOn x row rows .reply)) (moved-accepts x row rows)
-
 hears : (state rows frame message : List ℕ) (a : Answer) → heardBytesCause state rows frame message ≡ a
     → Reports state rows message (heardBytes state rows frame message) a
 unfolding heardBytes heardOf
 hears state rows frame message answer.Accepted e =
     let none = second-clear (stateCause receiverEnd state) (frameCause (receiverIn state) rows frame message) (sym (heard-cause state rows message frame) ∙ e) in
-    rw (e, heardBytes, none, heardOf) (moved-reply (receiverIn state) _ rows)
+    rw (e, heardBytes, none, heardOf) (moved-number (receiverIn state) _ rows)
 hears state rows frame message (answer.Refused c) e = rw (e, heardBytes)
 
 loses : (state rows message : List ℕ) (a : Answer) → lostBytesCause state rows message ≡ a
@@ -99,7 +87,7 @@ loses : (state rows message : List ℕ) (a : Answer) → lostBytesCause state ro
 unfolding lostBytes lossOf
 loses state rows message answer.Accepted e =
     let none = second-clear (stateCause receiverEnd state) (lossCause (receiverIn state) rows message) (sym (lost-cause state rows message) ∙ e) in
-    rw (e, lostBytes, none, lossOf) (moved-reply (receiverIn state) _ rows)
+    rw (e, lostBytes, none, lossOf) (moved-number (receiverIn state) _ rows)
 loses state rows message (answer.Refused c) e = rw (e, lostBytes)
 
 report-stays : {state rows message : List ℕ} {r : Reporting} (c : Cause) → r ≡ unreported state rows message c
@@ -107,6 +95,13 @@ report-stays : {state rows message : List ℕ} {r : Reporting} (c : Cause) → r
 report-stays c e = (ap (λ (r : Reporting). r .state) e, ap (λ (r : Reporting). r .rows) e, ap (λ (r : Reporting). r .message) e)
 
 -- ---- demand 1
+
+refuses : {R : Type 0} {Stays : Type 0} (reply : R → ℕ) (refusal : Cause → R) (r : R) → ((c : Cause) → reply (refusal c) ≡ numberOf c)
+    → (rs : List Row) → Comes reply refusal r (firstOf rs) → ((c : Cause) → r ≡ refusal c → Stays) → RefusesBytes rs (reply r) Stays
+refuses reply refusal r says rs by stays = record {
+  first = number-first reply refusal r says rs by;
+  stays = λ c e. stays c (number-refused reply refusal r says rs by c e);
+}
 
 pub demand1-bytes : Demand1Bytes
 unfolding openBytesCause sendBytesCause heardBytesCause lostBytesCause

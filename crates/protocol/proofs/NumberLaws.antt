@@ -1,7 +1,8 @@
 -- A number tells its case: `numbers-tell`, whose statement is `NumbersTell` of specs/Numbers.antt.
 use mathlib.Core.Path.{_≡_, refl, sym, ap, _∙_}
 use mathlib.Core.Bool.{cond}
-use mathlib.Core.Logic.{_↔_}
+use mathlib.Core.Logic.{_≢_}
+use native.Mathlib.Omega.{arith}
 use Prim.Native.Nat.{ℕ}
 use lib.Dec.{eqb}
 use Rattle.protocol.specs.declared.Cause.{Cause}
@@ -71,9 +72,8 @@ reply-tells a b e = sym (reply-back a) ∙ ap replyOf e ∙ reply-back b
 pub numbers-tell : NumbersTell
 numbers-tell = record { causes = number-tells; answers = answer-tells; replies = reply-tells }
 
--- it is a cause's exactly where the call is refused for that cause
-pub answer-refused : (a : Answer) (c : Cause) → (answerNumber a ≡ numberOf c) ↔ (a ≡ answer.Refused c)
-answer-refused a c = (answer-tells a (answer.Refused c), ap answerNumber)
-
-pub reply-refused : (r : Reply) (c : Cause) → (replyNumber r ≡ numberOf c) ↔ (r ≡ reply.Refused c)
-reply-refused r c = (reply-tells r (reply.Refused c), ap replyNumber)
+-- and an accepted call's is no cause's
+pub accepted-number : (c : Cause) → answerNumber answer.Accepted ≢ numberOf c
+accepted-number c e =
+    let same : answer.Accepted ≡ answer.Refused c = answer-tells answer.Accepted (answer.Refused c) e in
+    let z : _≡_ {A = ℕ} 0 1 = cc in omega arith
