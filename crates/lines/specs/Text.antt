@@ -1,4 +1,5 @@
 -- Document 01, "Playing a recording": the lines, as bytes.
+use mathlib.Core.Path.{_≡_}
 use mathlib.Core.List.{List, [], _∷_, _++_}
 use Prim.Native.Nat.{ℕ}
 use lib.ListN.{length, drop}
@@ -25,7 +26,8 @@ stopWord = 115 ∷ 116 ∷ 111 ∷ 112 ∷ 32 ∷ []
 unfoldable pub stopLine : Cause → List ℕ
 stopLine c = stopWord ++ decimal (numberOf c) ++ 10 ∷ []
 
--- what a report prints of the message that it tells of: its number, a space, and the reply; after `whole` the message; `none yet` prints no line
+-- what a report prints of the message that it tells of: its number, a space, and the reply; after `whole` the message; `none yet` prints
+-- no line
 unfoldable pub lineOf : ℕ → Reply → List ℕ → List ℕ
 lineOf about (Refused c) message = stopLine c
 lineOf about NoneYet message = []
@@ -36,3 +38,7 @@ lineOf about Clash message = decimal about ++ clashWord
 -- a text written over the start of a lent line
 unfoldable pub written : List ℕ → List ℕ → List ℕ
 written text line = text ++ drop (length text) line
+
+-- a lent line after a text was written over its start, and where the text ends
+abbrev pub Writes : List ℕ → List ℕ → ℕ → List ℕ → Type 0
+Writes text line end after = (end ≡ length text) × (after ≡ written text line)

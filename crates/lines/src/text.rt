@@ -6,17 +6,16 @@ use protocol::Cause;
 use protocol::Reply;
 use protocol::number_of;
 ghost use mathlib.Core.List.{_++_};
-ghost use mathlib.Core.Path.{_≡_};
 ghost use Prim.Native.Nat.{_+_, _*_, _≤_};
 ghost use lib.ListN.{length};
 ghost use Rattle.numbers.specs.Digits.{decimal};
-ghost use Rattle.lines.specs.Text.{stopLine, lineOf, written};
+ghost use Rattle.lines.specs.Text.{stopLine, lineOf, Writes};
 ghost use Rattle.lines.specs.Lent.{stopRoom};
 
 // A number in decimal, then a word.
 fn write_word(about: u32, word: &[u8], line: &mut [u8]) -> usize
     requires { ⌜ 10 + length (now word) ≤ length (now line) ⌝ }
-    ensures { λ r. ⌜ (r ≡ length (decimal about ++ now (word .entry))) × (now (line .exit) ≡ written (decimal about ++ now (word .entry)) (now (line .entry))) ⌝ }
+    ensures { λ r. ⌜ Writes (decimal about ++ now (word .entry)) (now (line .entry)) r (now (line .exit)) ⌝ }
 {
     let at = write_decimal(about, line, 0);
     write_at(line, at, word);
@@ -26,7 +25,7 @@ fn write_word(about: u32, word: &[u8], line: &mut [u8]) -> usize
 // The line of a message that is whole.
 fn write_whole(about: u32, message: &[u8], line: &mut [u8]) -> usize
     requires { ⌜ 18 + 2 * length (now message) ≤ length (now line) ⌝ }
-    ensures { λ r. ⌜ (r ≡ length (lineOf about Reply.Whole (now (message .entry)))) × (now (line .exit) ≡ written (lineOf about Reply.Whole (now (message .entry))) (now (line .entry))) ⌝ }
+    ensures { λ r. ⌜ Writes (lineOf about Reply.Whole (now (message .entry))) (now (line .entry)) r (now (line .exit)) ⌝ }
 {
     let start = write_word(about, b" whole ", line);
     let end = write_hex(message, line, start);
@@ -37,7 +36,7 @@ fn write_whole(about: u32, message: &[u8], line: &mut [u8]) -> usize
 // A line of `stop`, a space and the number, where there is room for any number's.
 pub(crate) fn put_stop(c: Cause, line: &mut [u8]) -> usize
     requires { ⌜ stopRoom ≤ length (now line) ⌝ }
-    ensures { λ r. ⌜ (r ≡ length (stopLine c)) × (now (line .exit) ≡ written (stopLine c) (now (line .entry))) ⌝ }
+    ensures { λ r. ⌜ Writes (stopLine c) (now (line .entry)) r (now (line .exit)) ⌝ }
 {
     write_at(line, 0, b"stop ");
     let at = write_decimal(number_of(c), line, 5);
@@ -48,7 +47,7 @@ pub(crate) fn put_stop(c: Cause, line: &mut [u8]) -> usize
 // What a report prints of the message that it tells of, where there is room for the longest line.
 pub(crate) fn put_line(about: u32, reply: Reply, message: &[u8], line: &mut [u8]) -> usize
     requires { ⌜ 18 + 2 * length (now message) ≤ length (now line) ⌝ }
-    ensures { λ r. ⌜ (r ≡ length (lineOf about reply (now (message .entry)))) × (now (line .exit) ≡ written (lineOf about reply (now (message .entry))) (now (line .entry))) ⌝ }
+    ensures { λ r. ⌜ Writes (lineOf about reply (now (message .entry))) (now (line .entry)) r (now (line .exit)) ⌝ }
 {
     match reply {
         Reply::Refused(c) => put_stop(c, line),

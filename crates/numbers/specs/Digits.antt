@@ -1,4 +1,5 @@
 -- A number in decimal, bytes in hex, and a text put over a line.
+use mathlib.Core.Path.{_≡_}
 use mathlib.Core.Bool.{true, false, cond}
 use mathlib.Core.List.{List, [], _∷_, _++_}
 use Prim.Native.Nat.{ℕ, zero, suc, _+_, _/_, _%_}
@@ -30,3 +31,7 @@ hex (b ∷ bs) = glyph (b / 16) ∷ glyph (b % 16) ∷ hex bs
 -- a text put over a line, from the place `start` on
 unfoldable pub put : ℕ → List ℕ → List ℕ → List ℕ
 put start text line = take start line ++ text ++ drop (start + length text) line
+
+-- a line after a text was put over it from the place `start` on, and where the text ends
+abbrev pub Puts : ℕ → List ℕ → List ℕ → ℕ → List ℕ → Type 0
+Puts start text line end after = (end ≡ start + length text) × (after ≡ put start text line)

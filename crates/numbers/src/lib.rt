@@ -2,7 +2,7 @@
 ghost use mathlib.Core.Path.{_≡_};
 ghost use Prim.Native.Nat.{_+_, _*_, _≤_, _<_};
 ghost use lib.ListN.{length};
-ghost use Rattle.numbers.specs.Digits.{glyph, decimal, hex, put};
+ghost use Rattle.numbers.specs.Digits.{glyph, decimal, hex, Puts};
 
 // A digit below 16, in lower case.
 fn digit(d: u8) -> u8
@@ -18,7 +18,7 @@ fn digit(d: u8) -> u8
 // A number in decimal.
 pub fn write_decimal(n: u32, line: &mut [u8], start: usize) -> usize
     requires { ⌜ start + length (decimal n) ≤ length (now line) ⌝ }
-    ensures { λ r. ⌜ (r ≡ start + length (decimal n)) × (now (line .exit) ≡ put start (decimal n) (now (line .entry))) ⌝ }
+    ensures { λ r. ⌜ Puts start (decimal n) (now (line .entry)) r (now (line .exit)) ⌝ }
 {
     if n < 10 {
         line[start] = digit(n as u8);
@@ -32,7 +32,7 @@ pub fn write_decimal(n: u32, line: &mut [u8], start: usize) -> usize
 // Bytes in lower-case hex.
 pub fn write_hex(bytes: &[u8], line: &mut [u8], start: usize) -> usize
     requires { ⌜ start + 2 * length (now bytes) ≤ length (now line) ⌝ }
-    ensures { λ r. ⌜ (r ≡ start + length (hex (now (bytes .entry)))) × (now (line .exit) ≡ put start (hex (now (bytes .entry))) (now (line .entry))) ⌝ }
+    ensures { λ r. ⌜ Puts start (hex (now (bytes .entry))) (now (line .entry)) r (now (line .exit)) ⌝ }
 {
     let mut i: usize = 0;
     while i < bytes.len() {
