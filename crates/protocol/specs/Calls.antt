@@ -86,11 +86,10 @@ pub record Reported : Type 0 where
 unfoldable pub messageDue : Settings → ℕ → ℕ
 messageDue s due = due - delayOf s
 
--- an accepted report: its row is written at slot due, t mod (k + T), the slot due moves on, and message due - T is told, if there is one
-unfoldable pub movedOn : Receiver → List ℕ → List ℕ → Reported
-movedOn x row rows =
+-- an accepted report once its row is written: the slot due moves on, and message due - T is told, if there is one
+abbrev pub toldBy : Receiver → List ℕ → Reported
+toldBy x now =
     let s = x .settings in
-    let now : List ℕ = putRow (rowLen s) (x .due % rowCount s) row rows in
     let t : ℕ = messageDue s (x .due) in
     let told : Reply = cond (ltb (x .due) (delayOf s)) reply.NoneYet (verdict s now (x .due + 1) t) in
     record {
@@ -99,6 +98,10 @@ movedOn x row rows =
       rows = now;
       message = bufferOf s now (x .due + 1) t told;
     }
+
+-- its row is written at slot due, t mod (k + T)
+unfoldable pub movedOn : Receiver → List ℕ → List ℕ → Reported
+movedOn x row rows = toldBy x (putRow (rowLen (x .settings)) (x .due % rowCount (x .settings)) row rows)
 
 -- a reported loss writes zeros over the whole row
 unfoldable pub lossOf : Receiver → List ℕ → List ℕ → Reported

@@ -1,7 +1,7 @@
 // The report of a frame.
 use crate::report::Reported;
+use crate::report::moved_on;
 use crate::report::refused;
-use crate::report::told;
 use causes::frame_cause;
 use protocol::Answer;
 use protocol::Receiver;
@@ -13,16 +13,10 @@ ghost use Rattle.protocol.specs.Calls.{heardOf};
 pub fn heard(x: Receiver, rows: &mut [u8], frame: &[u8], message: &mut [u8]) -> Reported
     ensures { λ r. ⌜ record { reply = r .reply; receiver = r .receiver; rows = now (rows .exit); message = now (message .exit) } ≡ heardOf x (now (rows .entry)) (now (frame .entry)) (now (message .entry)) ⌝ }
 {
-    let s = x.settings;
     let found = frame_cause(1, x, rows, frame, message);
     if let Answer::Refused(c) = found {
         return refused(c, x);
     }
-    record_heard(rows, frame, s, x.due);
-    let reply = told(s, x.due, rows, message);
-    let next = x.next();
-    Reported {
-        reply: reply,
-        receiver: next,
-    }
+    record_heard(rows, frame, x.settings, x.due);
+    moved_on(x, rows, message)
 }

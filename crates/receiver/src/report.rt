@@ -1,19 +1,16 @@
 // What the reports of losses and of frames share.
 use buffers::clear;
-use code::Settings;
 use protocol::Cause;
 use protocol::Receiver;
 use protocol::Reply;
-ghost use mathlib.Core.Bool.{cond};
 ghost use mathlib.Core.Path.{_≡_};
-ghost use Prim.Native.Nat.{_+_, _≤_};
-ghost use lib.Dec.{T, ltb};
+ghost use Prim.Native.Nat.{_≤_};
+ghost use lib.Dec.{T};
 ghost use lib.ListN.{length};
-ghost use Rattle.code.specs.Settings.{accepted, delayOf};
+ghost use Rattle.code.specs.Settings.{accepted};
 ghost use Rattle.protocol.specs.declared.Reply.the-variants as reply;
 ghost use Rattle.protocol.specs.Lengths.{lastSlot, messageLen, receiverLen};
-ghost use Rattle.protocol.specs.Verdict.{verdict, bufferOf};
-ghost use Rattle.protocol.specs.Calls.{messageDue};
+ghost use Rattle.protocol.specs.Calls.{toldBy};
 
 // What a report gives back.
 pub struct Reported {
@@ -31,15 +28,26 @@ pub(crate) fn refused(c: Cause, x: Receiver) -> Reported
     }
 }
 
-// What the report of the slot due tells, its row being written.
-pub(crate) fn told(s: Settings, due: u32, rows: &[u8], message: &mut [u8]) -> Reply
-    requires { ⌜ T (accepted s) × (due ≤ lastSlot) × (length (now rows) ≡ receiverLen s) × (length (now message) ≡ messageLen s) ⌝ }
-    ensures { λ r. ⌜ (r ≡ cond (ltb due (delayOf s)) reply.NoneYet (verdict s (now (rows .entry)) (due + 1) (messageDue s due))) × (now (message .exit) ≡ bufferOf s (now (rows .entry)) (due + 1) (messageDue s due) r) ⌝ }
+// Tells what the report of the slot due tells, its row being written, and moves on.
+pub(crate) fn moved_on(x: Receiver, rows: &[u8], message: &mut [u8]) -> Reported
+    requires { ⌜ T (accepted (x .settings)) × (x .due ≤ lastSlot) × (length (now rows) ≡ receiverLen (x .settings))
+        × (length (now message) ≡ messageLen (x .settings)) ⌝ }
+    ensures { λ r. ⌜ record { reply = r .reply; receiver = r .receiver; rows = now (rows .entry); message = now (message .exit) }
+        ≡ toldBy x (now (rows .entry)) ⌝ }
 {
+    let s = x.settings;
     let delay = s.effective_delay() as u32;
-    if due < delay {
+    let next = x.next();
+    if x.due < delay {
         clear(message);
-        return Reply::NoneYet;
+        return Reported {
+            reply: Reply::NoneYet,
+            receiver: next,
+        };
     }
-    decision::decide(s, rows, due + 1, due - delay, message)
+    let reply = decision::decide(s, rows, x.due + 1, x.due - delay, message);
+    Reported {
+        reply: reply,
+        receiver: next,
+    }
 }

@@ -9,19 +9,18 @@ use lib.ListN.{length, drop, length-drop}
 use Rattle.code.specs.declared.settings.Settings.{Settings}
 use Rattle.protocol.specs.declared.Receiver.{Receiver}
 use Rattle.protocol.specs.declared.Reply.{Reply}
-use Rattle.protocol.specs.Calls.{Reported}
+use Rattle.protocol.specs.Calls.{Reported, toldBy, movedOn}
 use Rattle.protocol.specs.declared.Answer.the-variants as answer
 use Rattle.protocol.specs.Causes.{frameCause}
 use Rattle.protocol.specs.Lengths.{frameLen, rowLen}
 use Rattle.protocol.proofs.ReportCauses.{FrameOpen, frame-open}
 use Rattle.protocol.proofs.ReportSteps.{heard-stays, heard-moves}
 use Rattle.ring.proofs.RowEnds.{kept}
-use Rattle.receiver.proofs.Outcomes.{moved-by}
 use Rattle.receiver.proofs.frame_report.heard.Statement.{statement}
 use Rattle.receiver.proofs.frame_report.heard.Tie as tie
 
 abbrev start : tie.After-frame-cause → tie.Start
-start c = c .before .before .before .before .before .before .before
+start c = c .before .before .before .before .before .before
 
 -- ---- a refusal
 
@@ -63,8 +62,8 @@ row-fits s frame e = omega (arith, length-drop 14 frame)
 abbrev free : tie.After-record-heard → tie.After-enum-told
 free c = c .before .before
 
-told-requires : tie.Need-told-requires
-told-requires c κs =
+moved-on-requires : tie.Need-moved-on-requires
+moved-on-requires c κs =
     let at = c .before .before .before .before in
     let a = begun (free at) .args in
     let s = a .x .settings in
@@ -76,20 +75,13 @@ told-requires c κs =
       f .message-exact,
     )
 
-abbrev written : tie.After-told → tie.After-record-heard
-written c = c .before .before .before .before .before
-
-next-requires : tie.Need-next-requires
-next-requires c κs = clear (free (written (c .before .before))) .in-time
-
 returns-2 : tie.Need-returns-2
+unfolding movedOn
 returns-2 c =
-    let at-told = c .before .before .before in
-    let at-heard = written at-told in
-    let a = begun (free at-heard) .args in
-    moved-by (a .x) (1 ∷ drop 14 (now (a .frame))) (now (a .rows)) _ _ _ _ (c .next .ensures) (at-heard .record-heard .ensures)
-    (at-told .told .ensures .0) (at-told .told .ensures .1)
-    ∙ sym (heard-moves (a .x) (now (a .rows)) (now (a .frame)) (now (a .message)) (uncaused (free at-heard)))
+    let at = c .before .before .before .before .before .before .before in
+    let a = begun (free at) .args in
+    c .before .before .moved-on .ensures ∙ ap (toldBy (a .x)) (at .record-heard .ensures)
+    ∙ sym (heard-moves (a .x) (now (a .rows)) (now (a .frame)) (now (a .message)) (uncaused (free at)))
 
 pub heard-spec : {M : Type 1} → statement M
 heard-spec =
@@ -103,8 +95,7 @@ heard-spec =
     returns
     (λ c. search needs)
     record-heard-requires
-    told-requires
-    next-requires
-    (λ c. written (c .before .before .before) .record-heard .kept .0)
-    (λ c. c .before .before .before .told .kept .1 .1 .1 .0)
+    moved-on-requires
+    (λ c. c .before .before .before .before .before .before .before .record-heard .kept .0)
+    (λ c. c .before .before .moved-on .kept .1 .1 .0)
     returns-2)

@@ -7,19 +7,18 @@ use denote.Ref.{now}
 use lib.ListN.{length, replicate, length-replicate}
 use Rattle.protocol.specs.declared.Receiver.{Receiver}
 use Rattle.protocol.specs.declared.Reply.{Reply}
-use Rattle.protocol.specs.Calls.{Reported}
+use Rattle.protocol.specs.Calls.{Reported, toldBy, movedOn}
 use Rattle.protocol.specs.declared.Answer.the-variants as answer
 use Rattle.protocol.specs.Causes.{lossCause}
 use Rattle.protocol.specs.Lengths.{rowLen}
 use Rattle.protocol.proofs.ReportCauses.{LossOpen, loss-open}
 use Rattle.protocol.proofs.ReportSteps.{loss-stays, loss-moves}
 use Rattle.ring.proofs.RowEnds.{kept}
-use Rattle.receiver.proofs.Outcomes.{moved-by}
 use Rattle.receiver.proofs.loss_report.loss.Statement.{statement}
 use Rattle.receiver.proofs.loss_report.loss.Tie as tie
 
 abbrev start : tie.After-loss-cause → tie.Start
-start c = c .before .before .before .before .before .before
+start c = c .before .before .before .before .before
 
 -- ---- a refusal
 
@@ -53,8 +52,8 @@ record-lost-requires c κs = let f = clear (c .before) in (f .settings, f .rows-
 abbrev free : tie.After-record-lost → tie.After-enum-told
 free c = c .before .before
 
-told-requires : tie.Need-told-requires
-told-requires c κs =
+moved-on-requires : tie.Need-moved-on-requires
+moved-on-requires c κs =
     let at = c .before .before .before .before in
     let a = begun (free at) .args in
     let s = a .x .settings in
@@ -66,20 +65,13 @@ told-requires c κs =
       f .message-exact,
     )
 
-abbrev written : tie.After-told → tie.After-record-lost
-written c = c .before .before .before .before .before
-
-next-requires : tie.Need-next-requires
-next-requires c κs = clear (free (written (c .before .before))) .in-time
-
 returns-2 : tie.Need-returns-2
+unfolding movedOn
 returns-2 c =
-    let at-told = c .before .before .before in
-    let at-lost = written at-told in
-    let a = begun (free at-lost) .args in
-    moved-by (a .x) (replicate (rowLen (a .x .settings)) 0) (now (a .rows)) _ _ _ _ (c .next .ensures) (at-lost .record-lost .ensures)
-    (at-told .told .ensures .0) (at-told .told .ensures .1)
-    ∙ sym (loss-moves (a .x) (now (a .rows)) (now (a .message)) (uncaused (free at-lost)))
+    let at = c .before .before .before .before .before .before .before in
+    let a = begun (free at) .args in
+    c .before .before .moved-on .ensures ∙ ap (toldBy (a .x)) (at .record-lost .ensures)
+    ∙ sym (loss-moves (a .x) (now (a .rows)) (now (a .message)) (uncaused (free at)))
 
 pub loss-spec : {M : Type 1} → statement M
 loss-spec =
@@ -93,8 +85,7 @@ loss-spec =
     returns
     (λ c. search needs)
     record-lost-requires
-    told-requires
-    next-requires
-    (λ c. written (c .before .before .before) .record-lost .kept .0)
-    (λ c. c .before .before .before .told .kept .1 .1 .1 .0)
+    moved-on-requires
+    (λ c. c .before .before .before .before .before .before .before .record-lost .kept .0)
+    (λ c. c .before .before .moved-on .kept .1 .1 .0)
     returns-2)
