@@ -1,6 +1,5 @@
 // The calls, and the line of each. A buffer has one byte 0 behind its exact length: how many bytes at its end are not lent is 0 for a
 // thing longer by one, 1 for one of exact length, 2 for one shorter by one.
-use crate::print;
 use code::Settings;
 use protocol::Receiver;
 use protocol::Sender;
@@ -49,7 +48,7 @@ pub fn open_sender(s: Settings, cut: usize, rows: &mut [u8]) -> Sender
 {
     let rows_end = end(rows.len(), cut);
     let opened = sender::open(s, &mut rows[0..rows_end]);
-    print::opened_sender(opened, rows);
+    printing::opened_sender(opened, rows);
     opened.sender
 }
 
@@ -59,7 +58,7 @@ pub fn open_receiver(s: Settings, cut: usize, rows: &mut [u8]) -> Receiver
 {
     let rows_end = end(rows.len(), cut);
     let opened = receiver::open(s, &mut rows[0..rows_end]);
-    print::opened_receiver(opened, rows);
+    printing::opened_receiver(opened, rows);
     opened.receiver
 }
 
@@ -80,7 +79,7 @@ pub fn send(call: Call, rows: &mut [u8], message: &[u8], frame: &mut [u8]) -> Se
         &message[0..message_end],
         &mut frame[0..frame_end],
     );
-    print::sent(sent, call.shown, frame, rows);
+    printing::sent(sent, call.shown, frame, rows);
     sent.sender
 }
 
@@ -101,7 +100,7 @@ pub fn heard(call: Call, rows: &mut [u8], frame: &[u8], buffer: &mut [u8]) -> Re
         &frame[0..frame_end],
         &mut buffer[0..buffer_end],
     );
-    print::reported(b"frame", reported, call.shown, buffer, rows);
+    printing::reported(b"frame", reported, call.shown, buffer, rows);
     reported.receiver
 }
 
@@ -116,6 +115,6 @@ pub fn loss(call: Call, rows: &mut [u8], buffer: &mut [u8]) -> Receiver
     let rows_end = end(rows.len(), call.rows);
     let buffer_end = end(buffer.len(), call.first);
     let reported = receiver::loss(x, &mut rows[0..rows_end], &mut buffer[0..buffer_end]);
-    print::reported(b"loss", reported, call.shown, buffer, rows);
+    printing::reported(b"loss", reported, call.shown, buffer, rows);
     reported.receiver
 }
