@@ -12,9 +12,9 @@ use Rattle.elimination.specs.Elimination.{pivotFrom, cleared}
 use Rattle.elimination.proofs.Pivots.{pivot-below, pivot-step}
 use Rattle.elimination.proofs.LeftFlags.{unknown-left, no-pivot-left, pivot-left}
 use Rattle.elimination.proofs.Terms.{both}
-use Rattle.reduction.proofs.Rewritten.{unknown-step, no-pivot-step}
-use Rattle.reduction.proofs.columns.column_step.Statement.{statement}
-use Rattle.reduction.proofs.columns.column_step.Tie as tie
+use Rattle.columns.proofs.Rewritten.{unknown-step, no-pivot-step}
+use Rattle.columns.proofs.column_step.Statement.{statement}
+use Rattle.columns.proofs.column_step.Tie as tie
 
 returns : tie.Need-returns
 returns c =

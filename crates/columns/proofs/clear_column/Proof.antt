@@ -17,9 +17,9 @@ use Rattle.galois.proofs.ByIndex.{is-table, filled-more, kept-more}
 use Rattle.multiples.specs.Quarters.{rowBy}
 use Rattle.multiples.proofs.Digits.{row-by-quarters}
 use Rattle.elimination.specs.Elimination.{cell, scaledAt, cleared}
-use Rattle.reduction.proofs.Rewritten.{clearedRow, sweptRow, row-swept, row-own, row-other}
-use Rattle.reduction.proofs.columns.clear_column.Statement.{statement}
-use Rattle.reduction.proofs.columns.clear_column.Tie as tie
+use Rattle.columns.proofs.Rewritten.{clearedRow, sweptRow, row-swept, row-own, row-other}
+use Rattle.columns.proofs.clear_column.Statement.{statement}
+use Rattle.columns.proofs.clear_column.Tie as tie
 
 abbrev Inv-loop : tie.InvT-loop
 Inv-loop rows₀ r p k reciprocals pivot parts q₀ rows q =

@@ -5,9 +5,9 @@ use Prim.Native.Nat.{ℕ, _<_}
 use denote.Ref.{now}
 use lib.ListN.{getD}
 use Rattle.galois.proofs.ArrayBytes.{array-below}
-use Rattle.reduction.proofs.Rewritten.{row-divided, row-by-one}
-use Rattle.reduction.proofs.columns.scaled.Statement.{statement}
-use Rattle.reduction.proofs.columns.scaled.Tie as tie
+use Rattle.columns.proofs.Rewritten.{row-divided, row-by-one}
+use Rattle.columns.proofs.scaled.Statement.{statement}
+use Rattle.columns.proofs.scaled.Tie as tie
 
 -- the row holds bytes
 bytes : (c : tie.Start) (j : ℕ) → getD (c .args .t1) j 0 < 256

@@ -8,9 +8,9 @@ use Prim.Native.Nat.{ℕ, suc, _+_, _-_, _≤_, zero-le}
 use denote.Ref.{now}
 use Rattle.elimination.specs.Elimination.{cell, pivotFrom}
 use Rattle.elimination.proofs.Terms.{both}
-use Rattle.reduction.proofs.Search.{pivot-here, pivot-taken, pivot-zero}
-use Rattle.reduction.proofs.columns.pivot_row.Statement.{statement}
-use Rattle.reduction.proofs.columns.pivot_row.Tie as tie
+use Rattle.columns.proofs.Search.{pivot-here, pivot-taken, pivot-zero}
+use Rattle.columns.proofs.pivot_row.Statement.{statement}
+use Rattle.columns.proofs.pivot_row.Tie as tie
 
 abbrev Inv-loop : tie.InvT-loop
 Inv-loop rows roles p k r₀ r = (r ≤ k) × (pivotFrom (both rows roles) p 0 k ≡ pivotFrom (both rows roles) p r (k - r))

@@ -1,6 +1,4 @@
-// Elimination over the known positions of a systematic form: the known sources are pivots from the start, then each known parity
-// position takes one more. It is the same for every lane.
-use code::Settings;
+// One position of an elimination: its pivot is looked for, scaled to 1, and cleared from the other rows.
 use multiples::quarters;
 use multiples::row_by;
 use multiples::row_times;
@@ -10,7 +8,7 @@ ghost use lib.Dec.{eqb};
 ghost use lib.ListN.{length, getD};
 ghost use Rattle.galois.specs.Byte.{quotient, Reciprocals};
 ghost use Rattle.galois.specs.Table.{table};
-ghost use Rattle.elimination.specs.Elimination.{pivotFrom, cleared, columnStep, reducedFrom, leftFlag, leftFrom};
+ghost use Rattle.elimination.specs.Elimination.{pivotFrom, cleared, columnStep, leftFlag};
 
 // The first row below k that is free and not 0 at position p, or 16.
 fn pivot_row(rows: &[[u8; 16]], roles: &[u8; 16], p: usize, k: usize) -> usize
@@ -56,7 +54,7 @@ fn clear_column(rows: &mut [[u8; 16]; 16], r: usize, p: usize, k: usize, recipro
 }
 
 // One position: its pivot, if it is known and some row can be one. Returned is what is left of its flag: 0 if it has become a pivot.
-fn column_step(
+pub fn column_step(
     rows: &mut [[u8; 16]; 16],
     roles: &mut [u8; 16],
     flag: u8,
@@ -79,31 +77,4 @@ fn column_step(
     clear_column(rows, r, p, k, reciprocals);
     roles[r] = p as u8;
     0
-}
-
-// Elimination over the parity positions whose flag is 1, from the roles that are lent, on a copy of the matrix, which is returned; the
-// flag of each position that becomes a pivot is cleared. For settings that are not accepted nothing is done.
-pub fn eliminate(
-    s: Settings,
-    reciprocals: &[u8; 256],
-    matrix: [[u8; 16]; 16],
-    flags: &mut [u8; 16],
-    roles: &mut [u8; 16],
-) -> [[u8; 16]; 16]
-    requires { ⌜ (length (now roles) ≡ 16) × Reciprocals (now reciprocals) ⌝ }
-    ensures reduced { λ r. ⌜ record { rows = r; roles = now (roles .exit) }
-        ≡ reducedFrom s (record { rows = matrix; roles = now (roles .entry) }) (now (flags .entry)) ⌝ }
-    ensures left { λ _. ⌜ now (flags .exit)
-        ≡ leftFrom s (record { rows = matrix; roles = now (roles .entry) }) (now (flags .entry)) ⌝ }
-{
-    if !s.accepted() {
-        return matrix;
-    }
-    let mut reduced = matrix;
-    let mut p = s.sources();
-    while p < s.symbols() {
-        flags[p] = column_step(&mut reduced, roles, flags[p], p, s.sources(), reciprocals);
-        p += 1;
-    }
-    reduced
 }

@@ -16,8 +16,8 @@ use Rattle.elimination.proofs.Reductions.{reduced-accepted, sixteen-roles}
 use Rattle.elimination.proofs.LeftFlags.{left-accepted, left-kept}
 use Rattle.elimination.proofs.Terms.{both}
 use Rattle.reduction.proofs.Parities.{reduced-refused, left-refused, columns-more, left-more}
-use Rattle.reduction.proofs.columns.eliminate.Statement.{statement}
-use Rattle.reduction.proofs.columns.eliminate.Tie as tie
+use Rattle.reduction.proofs.eliminate.Statement.{statement}
+use Rattle.reduction.proofs.eliminate.Tie as tie
 
 abbrev Inv-loop : tie.InvT-loop
 Inv-loop s reciprocals flags₀ roles₀ reduced₀ p₀ flags roles reduced p =
