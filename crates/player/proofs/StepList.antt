@@ -1,5 +1,5 @@
 -- The lines of the steps, one after another, are the transcript, and the steps end.
-use mathlib.Core.Path.{_≡_, refl}
+use mathlib.Core.Path.{_≡_, refl, ap}
 use mathlib.Core.Bool.{Bool, true, false}
 use mathlib.Core.List.{List, _∷_, _++_, append-nil}
 use Prim.Native.Nat.{ℕ, zero, suc, _+_, _-_, _*_, _/_, _%_, _≤_, _<_}
@@ -10,13 +10,14 @@ use lib.ListN.{length, take, drop, replicate, length-replicate}
 use lib.Seq.{drop-drop}
 use Rattle.code.specs.declared.settings.Settings.{Settings}
 use Rattle.code.specs.Settings.{accepted}
+use Rattle.protocol.specs.declared.Receiver.{Receiver}
 use Rattle.protocol.specs.declared.Answer.the-variants as answer
 use Rattle.protocol.specs.Lengths.{messageLen, frameLen, rowCount, receiverLen}
-use Rattle.protocol.specs.States.{receiverAt}
+use Rattle.protocol.specs.States.{openedReceiver, reportedOn}
 use Rattle.protocol.specs.Rows.{joined}
 use Rattle.protocol.specs.declared.Answer.{Answer}
-use Rattle.protocol.specs.Calls.{OpenedReceiver, openReceiverOf, receivedZeros, Reported, lossOf, heardOf}
-use Rattle.protocol.proofs.CauseTables.{open-clear}
+use Rattle.protocol.specs.Calls.{receivedZeros, Reported, lossOf, heardOf}
+use Rattle.protocol.proofs.ReportChain.{opened-receiver}
 use Rattle.frames.specs.Fields.{slotIn}
 use Rattle.stops.specs.Stops.{frameStop}
 use Rattle.stops.proofs.StopLaws.{passing-stop, passing-onward}
@@ -52,81 +53,80 @@ module _ (recording : List ℕ) (p : Player) (rows message : List ℕ) where
 
 -- ---- the frames
 
-module _ (recording : List ℕ) (s : Settings) (offset : ℕ) (fits : offset + frameLen s ≤ length recording) (frames : List (List ℕ)) where
+module _ (recording : List ℕ) (offset : ℕ) (frames : List (List ℕ)) where
   -- the frame at the offset
-  abbrev here : List ℕ
-  here = take (frameLen s) (drop offset recording)
+  abbrev here : Settings → List ℕ
+  here s = take (frameLen s) (drop offset recording)
 
   -- its report, and what the frames after it print
-  abbrev finish : Rest
-  finish = λ y rows message. andThen y (heardOf y rows here message) (played frames)
+  abbrev finish : Settings → Rest
+  finish s = λ y rows message. andThen y (heardOf y rows (here s) message) (played frames)
 
-  module _ (after : (slot : ℕ) (rows message : List ℕ)
-      → Steps recording (playerAt (receiverAt s slot) (offset + frameLen s)) rows message (played frames (receiverAt s slot) rows message)) where
-    -- the report of a frame at the slot due, and what comes after it
-    heard-steps : (slot : ℕ) (rows message : List ℕ) → frameStop (receiverAt s slot) here ≡ answer.Accepted → slotIn here ≤ slot
-        → Steps recording (playerAt (receiverAt s slot) offset) rows message (finish (receiverAt s slot) rows message)
-    heard-steps slot rows message e reached =
-        let r : Reported = heardOf (receiverAt s slot) rows here message in
-        report-by recording (playerAt (receiverAt s slot) offset) rows message (offset + frameLen s) r (played frames)
-        (act-heard recording (playerAt (receiverAt s slot) offset) fits rows message e reached)
-        (λ free. rw (heard-onward (receiverAt s slot) rows here message free) (after (slot + 1) (r .rows) (r .message)))
+  -- from the frame after it on, at any receiver with these settings
+  abbrev After : Settings → Type 0
+  After s =
+      (y : Receiver) → y .settings ≡ s → (rows message : List ℕ)
+      → Steps recording (playerAt y (offset + frameLen s)) rows message (played frames y rows message)
 
-    -- the skipped slots, then the frame
-    skip-steps : (m slot : ℕ) (rows message : List ℕ) → frameStop (receiverAt s slot) here ≡ answer.Accepted → slotIn here - slot ≡ m
-        → Steps recording (playerAt (receiverAt s slot) offset) rows message (skipped m finish (receiverAt s slot) rows message)
-    unfolding skipped
-    skip-steps zero slot rows message e left = heard-steps slot rows message e (omega arith)
-    skip-steps (suc m) slot rows message e left =
-        let above : slot < slotIn here = omega arith in
-        let r : Reported = lossOf (receiverAt s slot) rows message in
-        let onto : frameStop (receiverAt s (slot + 1)) here ≡ answer.Accepted =
-        passing-stop (receiverAt s (slot + 1)) here (passing-onward (receiverAt s slot) here e above) in
-        report-by recording (playerAt (receiverAt s slot) offset) rows message offset r (skipped m finish)
-        (act-loss recording (playerAt (receiverAt s slot) offset) fits rows message e above)
-        (λ free.
-        rw (loss-onward (receiverAt s slot) rows message free) (skip-steps m (slot + 1) (r .rows) (r .message) onto (omega arith)))
+  -- the report of a frame at the slot due, and what comes after it
+  heard-steps : (y : Receiver) → offset + frameLen (y .settings) ≤ length recording → After (y .settings) → (rows message : List ℕ)
+      → frameStop y (here (y .settings)) ≡ answer.Accepted → slotIn (here (y .settings)) ≤ y .due
+      → Steps recording (playerAt y offset) rows message (finish (y .settings) y rows message)
+  heard-steps y fits after rows message e reached =
+      let r : Reported = heardOf y rows (here (y .settings)) message in
+      report-by recording (playerAt y offset) rows message (offset + frameLen (y .settings)) r (played frames)
+      (act-heard recording (playerAt y offset) fits rows message e reached)
+      (λ free. rw (heard-onward y rows (here (y .settings)) message free) (after (reportedOn y) refl (r .rows) (r .message)))
 
-    -- a frame and those after it: it stops the player, or its skipped slots are lost and it is reported
-    frame-steps : (slot : ℕ) (rows message : List ℕ)
-        → Steps recording (playerAt (receiverAt s slot) offset) rows message (played (here ∷ frames) (receiverAt s slot) rows message)
-    unfolding played stopAct
-    frame-steps slot rows message = go (frameStop (receiverAt s slot) here) refl
-      where
-        go : (f : Answer) → frameStop (receiverAt s slot) here ≡ f
-            → Steps recording (playerAt (receiverAt s slot) offset) rows message (played (here ∷ frames) (receiverAt s slot) rows message)
-        go answer.Accepted e = rw (e, played) (skip-steps (slotIn here - slot) slot rows message e refl)
-        go (answer.Refused c) e =
-            rw (e, played)
-            (Steps.last (playerAt (receiverAt s slot) offset) rows message (stopAct (playerAt (receiverAt s slot) offset) rows message c)
-            (act-stop recording (playerAt (receiverAt s slot) offset) fits rows message c e) refl)
+  -- the skipped slots, then the frame
+  skip-steps : (m : ℕ) (y : Receiver) → offset + frameLen (y .settings) ≤ length recording → After (y .settings) → (rows message : List ℕ)
+      → frameStop y (here (y .settings)) ≡ answer.Accepted → slotIn (here (y .settings)) - y .due ≡ m
+      → Steps recording (playerAt y offset) rows message (skipped m (finish (y .settings)) y rows message)
+  unfolding skipped
+  skip-steps zero y fits after rows message e left = heard-steps y fits after rows message e (omega arith)
+  skip-steps (suc m) y fits after rows message e left =
+      let frame : List ℕ = here (y .settings) in
+      let above : y .due < slotIn frame = omega arith in
+      let r : Reported = lossOf y rows message in
+      let onto : frameStop (reportedOn y) frame ≡ answer.Accepted =
+      passing-stop (reportedOn y) frame (passing-onward y frame e above) in
+      report-by recording (playerAt y offset) rows message offset r (skipped m (finish (y .settings)))
+      (act-loss recording (playerAt y offset) fits rows message e above)
+      (λ free. rw (loss-onward y rows message free) (skip-steps m (reportedOn y) fits after (r .rows) (r .message) onto (omega arith)))
+
+  -- a frame and those after it: it stops the player, or its skipped slots are lost and it is reported
+  frame-steps : (y : Receiver) → offset + frameLen (y .settings) ≤ length recording → After (y .settings) → (rows message : List ℕ)
+      → Steps recording (playerAt y offset) rows message (played (here (y .settings) ∷ frames) y rows message)
+  unfolding played stopAct
+  frame-steps y fits after rows message = go (frameStop y (here (y .settings))) refl
+    where
+      go : (f : Answer) → frameStop y (here (y .settings)) ≡ f
+          → Steps recording (playerAt y offset) rows message (played (here (y .settings) ∷ frames) y rows message)
+      go answer.Accepted e = rw (e, played) (skip-steps (slotIn (here (y .settings)) - y .due) y fits after rows message e refl)
+      go (answer.Refused c) e =
+          rw (e, played)
+          (Steps.last (playerAt y offset) rows message (stopAct (playerAt y offset) rows message c)
+          (act-stop recording (playerAt y offset) fits rows message c e) refl)
 
 -- the frames left, one after another
-pieces-steps : (recording : List ℕ) (s : Settings) (m offset slot : ℕ) (rows message : List ℕ)
-    → offset + m * frameLen s ≡ length recording
-    → Steps recording (playerAt (receiverAt s slot) offset) rows message
-    (played (pieces m (frameLen s) (drop offset recording)) (receiverAt s slot) rows message)
+pieces-steps : (recording : List ℕ) (m offset : ℕ) (y : Receiver) (rows message : List ℕ)
+    → offset + m * frameLen (y .settings) ≡ length recording
+    → Steps recording (playerAt y offset) rows message (played (pieces m (frameLen (y .settings)) (drop offset recording)) y rows message)
 unfolding pieces played endAct
-pieces-steps recording s zero offset slot rows message left =
-    Steps.last (playerAt (receiverAt s slot) offset) rows message (endAct (playerAt (receiverAt s slot) offset) rows message)
-    (act-end recording (playerAt (receiverAt s slot) offset) rows message (omega arith)) refl
-pieces-steps recording s (suc m) offset slot rows message left =
-    let more : suc m * frameLen s ≡ m * frameLen s + frameLen s = suc-mul m (frameLen s) in
-    rw (drop-drop (frameLen s) offset recording)
-    (frame-steps recording s offset (omega arith) (pieces m (frameLen s) (drop (offset + frameLen s) recording))
-    (λ slot' rows' message'. pieces-steps recording s m (offset + frameLen s) slot' rows' message' (omega arith)) slot rows message)
+pieces-steps recording zero offset y rows message left =
+    Steps.last (playerAt y offset) rows message (endAct (playerAt y offset) rows message)
+    (act-end recording (playerAt y offset) rows message (omega arith)) refl
+pieces-steps recording (suc m) offset y rows message left =
+    let size : ℕ = frameLen (y .settings) in
+    let more : suc m * size ≡ m * size + size = suc-mul m size in
+    rw (drop-drop size offset recording)
+    (frame-steps recording offset (pieces m size (drop (offset + size) recording)) y (omega arith)
+    (λ z e rows' message'.
+    let same : frameLen (z .settings) ≡ size = ap frameLen e in
+    rw same at (pieces-steps recording m (offset + size) z rows' message' (rw same (omega arith))))
+    rows message)
 
--- ---- the opening
-
--- the opened receiver
-abbrev openedFor : Settings → OpenedReceiver
-openedFor s =
-    record { answer = answer.Accepted; receiver = receiverAt s 0; rows = joined (rowCount s) (λ r. receivedZeros s) }
-
--- accepted settings and rows of the exact length open it
-opens : (s : Settings) (rows : List ℕ) → T (accepted s) → length rows ≡ receiverLen s → openReceiverOf s rows ≡ openedFor s
-unfolding openReceiverOf
-opens s rows ok exact = rw (open-clear s (receiverLen s) rows ok exact, openReceiverOf)
+-- ---- from the start
 
 -- a recording that passes, from its start: the steps print what it prints, and end
 pub from-start : (recording rows message : List ℕ) (s : Settings) → T (accepted s) → length recording % frameLen s ≡ 0
@@ -136,9 +136,9 @@ unfolding beginOf playedFrom
 from-start recording rows message s ok whole rows-exact message-exact =
     let frames : ℕ = length recording / frameLen s in
     rw (
-      opens s rows ok rows-exact,
-      opens s (replicate (receiverLen s) 0) ok (length-replicate (receiverLen s) 0),
+      opened-receiver s ok rows rows-exact,
+      opened-receiver s ok (replicate (receiverLen s) 0) (length-replicate (receiverLen s) 0),
       message-exact,
     )
-    (pieces-steps recording s frames 0 0 (openedFor s .rows) (replicate (messageLen s) 0)
+    (pieces-steps recording frames 0 (openedReceiver s) (joined (rowCount s) (λ r. receivedZeros s)) (replicate (messageLen s) 0)
     (omega (arith, div-add-mod' (length recording) (frameLen s))))
