@@ -11,8 +11,9 @@ use borrow.Rule.Slice.PartMut.{putMid}
 use Rattle.lines.specs.Text.{written}
 use Rattle.lines.specs.Lent.{longest}
 use Rattle.progress.specs.declared.Player.{Player}
-use Rattle.steps.specs.Steps.{Act, actOf}
-use Rattle.steps.specs.Outcomes.{Outcome, printedOn}
+use Rattle.reporting.specs.Acts.{Act}
+use Rattle.steps.specs.Steps.{actOf}
+use Rattle.reporting.specs.Outcomes.{Outcome, printedOn}
 use Rattle.player.specs.Filling.{noAct, after, gathered, filledOf}
 use Rattle.player.proofs.Gathering.{gathered-none, gathered-last, gathered-more}
 

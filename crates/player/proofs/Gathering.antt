@@ -9,7 +9,8 @@ use lib.ListN.{length}
 use borrow.Author.Tests.{lt-ltb, le-ltb, ltb-true, ltb-false}
 use Rattle.lines.specs.Lent.{longest}
 use Rattle.progress.specs.declared.Player.{Player}
-use Rattle.steps.specs.Steps.{Act, actOf}
+use Rattle.reporting.specs.Acts.{Act}
+use Rattle.steps.specs.Steps.{actOf}
 use Rattle.player.specs.Filling.{noAct, after, stepsWithin, enoughSteps, gathered}
 use Rattle.player.proofs.StepsLeft.{stepsLeft, few-left, fewer}
 

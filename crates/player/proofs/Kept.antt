@@ -17,7 +17,8 @@ use Rattle.protocol.specs.Calls.{movedOn, lossOf, heardOf}
 use Rattle.protocol.proofs.ReportCauses.{loss-open, frame-open}
 use Rattle.protocol.proofs.ReportSteps.{loss-moves, loss-stays, heard-moves, heard-stays}
 use Rattle.progress.specs.declared.Player.{Player}
-use Rattle.steps.specs.Steps.{endAct, stopAct, reportAct, actOf}
+use Rattle.reporting.specs.Acts.{stopAct, reportAct}
+use Rattle.steps.specs.Steps.{endAct, actOf}
 use Rattle.steps.proofs.Acts.{frameAt, every-act}
 
 -- the message buffer of an accepted report

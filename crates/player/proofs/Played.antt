@@ -17,8 +17,9 @@ use Rattle.frames.specs.Fields.{settingsIn}
 use Rattle.stops.specs.Stops.{recordingCause, startOf}
 use Rattle.stops.proofs.StartLaws.{passed}
 use Rattle.progress.specs.declared.Player.{Player}
-use Rattle.steps.specs.Steps.{beginOf, Act}
-use Rattle.steps.specs.Outcomes.{printedOn}
+use Rattle.reporting.specs.Acts.{Act}
+use Rattle.steps.specs.Steps.{beginOf}
+use Rattle.reporting.specs.Outcomes.{printedOn}
 use Rattle.player.specs.Transcript.{playedFrom, transcript}
 use Rattle.player.specs.Filling.{noAct, after, gathered, filledOf}
 use Rattle.player.specs.Printed.{handedOut, Fillings, Printed, Fitting, Playing}

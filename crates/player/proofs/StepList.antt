@@ -23,7 +23,8 @@ use Rattle.stops.specs.Stops.{frameStop}
 use Rattle.stops.proofs.StopLaws.{passing-stop, passing-onward}
 use Rattle.progress.specs.declared.Player.{Player}
 use Rattle.progress.specs.Refusal.{refuses}
-use Rattle.steps.specs.Steps.{beginOf, Act, endAct, stopAct, reportAct, actOf}
+use Rattle.reporting.specs.Acts.{Act, stopAct, reportAct}
+use Rattle.steps.specs.Steps.{beginOf, endAct, actOf}
 use Rattle.steps.proofs.Acts.{loss-onward, heard-onward, playerAt, act-end, act-stop, act-loss, act-heard}
 use Rattle.player.specs.Transcript.{pieces, Rest, andThen, skipped, played, playedFrom}
 

@@ -13,7 +13,8 @@ use Rattle.frames.specs.Fields.{slotIn}
 use Rattle.stops.specs.Stops.{frameStop}
 use Rattle.stops.proofs.StopLaws.{stop-passing}
 use Rattle.progress.specs.declared.Player.{Player}
-use Rattle.steps.specs.Steps.{Act, endAct, stopAct, reportAct, actOf}
+use Rattle.reporting.specs.Acts.{Act, stopAct, reportAct}
+use Rattle.steps.specs.Steps.{endAct, actOf}
 use Rattle.steps.proofs.Acts.{frame-some, loss-onward, frameAt, every-act}
 use Rattle.player.specs.Filling.{enoughSteps}
 

@@ -6,8 +6,9 @@ use lib.Dec.{ltb}
 use lib.ListN.{length}
 use Rattle.lines.specs.Lent.{longest}
 use Rattle.progress.specs.declared.Player.{Player}
-use Rattle.steps.specs.Steps.{Act, actOf}
-use Rattle.steps.specs.Outcomes.{Outcome, printedOn}
+use Rattle.reporting.specs.Acts.{Act}
+use Rattle.steps.specs.Steps.{actOf}
+use Rattle.reporting.specs.Outcomes.{Outcome, printedOn}
 
 -- ---- several steps as one
 

@@ -13,7 +13,7 @@ use Rattle.stops.specs.declared.Start.the-variants.{Empty, Stop, Play}
 use Rattle.stops.specs.Stops.{startOf}
 use Rattle.progress.specs.declared.Player.{Player}
 use Rattle.steps.specs.Steps.{Begun, beginOf}
-use Rattle.steps.specs.Outcomes.{Outcome}
+use Rattle.reporting.specs.Outcomes.{Outcome}
 use Rattle.player.specs.Transcript.{transcript}
 use Rattle.player.specs.Filling.{filledOf}
 

@@ -4,7 +4,7 @@ use progress::Player;
 use progress::Progress;
 use steps::step;
 ghost use mathlib.Core.Path.{_≡_};
-ghost use Rattle.steps.specs.Outcomes.{outcome};
+ghost use Rattle.reporting.specs.Outcomes.{outcome};
 ghost use Rattle.player.specs.Filling.{filledOf};
 
 // Plays on until the longest line may not fit into what is left of the buffer, or the recording is over.

@@ -25,7 +25,8 @@ use Rattle.frames.specs.Fields.{slotIn}
 use Rattle.stops.specs.Stops.{frameStop}
 use Rattle.progress.specs.declared.Player.{Player}
 use Rattle.progress.specs.Refusal.{refuses}
-use Rattle.steps.specs.Steps.{Act, endAct, stopAct, reportAct, frameAct, actOf}
+use Rattle.reporting.specs.Acts.{Act, stopAct, reportAct, frameAct}
+use Rattle.steps.specs.Steps.{endAct, actOf}
 
 -- a frame has at least its header
 pub frame-some : (s : Settings) → 0 < frameLen s

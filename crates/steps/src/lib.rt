@@ -3,23 +3,18 @@
 use buffers::clear;
 use buffers::frame_len;
 use code::Settings;
-use frames::slot_of;
 use progress::Player;
 use progress::Progress;
 use progress::stopped;
-use progress::told;
-use protocol::Answer;
 use protocol::Cause;
 use recording::Found;
 use recording::next_frame;
-use stops::stop_of;
-use terminal::report_kept;
-ghost use mathlib.Core.Bool.{cond};
+use reporting::at_frame;
 ghost use mathlib.Core.Path.{_≡_};
 ghost use Prim.Native.Nat.{_+_, _*_, _≤_};
 ghost use lib.ListN.{length};
-ghost use Rattle.steps.specs.Steps.{beginOf, frameAct, actOf};
-ghost use Rattle.steps.specs.Outcomes.{outcome, printedOn};
+ghost use Rattle.reporting.specs.Outcomes.{outcome, printedOn};
+ghost use Rattle.steps.specs.Steps.{beginOf, actOf};
 
 // A player at the start of a recording with these settings.
 pub fn begin(s: Settings, rows: &mut [u8], message: &mut [u8]) -> Player
@@ -35,41 +30,6 @@ pub fn begin(s: Settings, rows: &mut [u8], message: &mut [u8]) -> Player
         receiver: x,
         offset: 0,
     }
-}
-
-// Where the next frame starts: behind the one at the offset if that was heard.
-fn offset_after(heard: bool, offset: usize, end: usize) -> usize
-    ensures { λ r. ⌜ r ≡ cond heard end offset ⌝ }
-{
-    if heard {
-        return end;
-    }
-    offset
-}
-
-// A step at a frame that ends at this place of the recording: it stops the player, or the slot due is lost, or it is reported.
-fn at_frame(
-    p: Player,
-    frame: &[u8],
-    end: usize,
-    rows: &mut [u8],
-    message: &mut [u8],
-    line: &mut [u8],
-) -> Progress
-    requires { ⌜ (14 ≤ length (now frame)) × (18 + 2 * length (now message) ≤ length (now line)) ⌝ }
-    ensures { λ r. ⌜
-        outcome r (now (rows .exit)) (now (message .exit)) (now (line .exit))
-        ≡ printedOn (now (line .entry)) (frameAct p (now (frame .entry)) end (now (rows .entry)) (now (message .entry)))
-        ⌝ }
-{
-    let x = p.receiver;
-    let stop = stop_of(x, frame);
-    if let Answer::Refused(c) = stop {
-        return stopped(p, c, line);
-    }
-    let heard = slot_of(frame) <= x.due;
-    let r = report_kept(x, rows, heard, frame, message);
-    told(x, offset_after(heard, p.offset, end), r, message, line)
 }
 
 // One step: a report, and its line.

@@ -7,7 +7,7 @@ use Prim.Native.Nat.{ℕ, _+_, _*_, _≤_, _<_}
 use denote.Ref.{now}
 use lib.ListN.{length}
 use Rattle.lines.specs.Lent.{longest}
-use Rattle.steps.specs.Outcomes.{Outcome, outcome}
+use Rattle.reporting.specs.Outcomes.{Outcome, outcome}
 use Rattle.player.specs.Filling.{filledOf}
 use Rattle.player.proofs.LoopLaws.{filled-fits, filled-fewer}
 use Rattle.player.proofs.StepsLeft.{stepsLeft}

@@ -9,7 +9,7 @@ use denote.Ref.{now}
 use lib.ListN.{length}
 use Rattle.lines.specs.Lent.{longest}
 use Rattle.steps.specs.Steps.{actOf}
-use Rattle.steps.specs.Outcomes.{Outcome, outcome, printedOn}
+use Rattle.reporting.specs.Outcomes.{Outcome, outcome, printedOn}
 use Rattle.player.proofs.FillLaws.{part, part-length, Going, goes, full, fitting, onward, ended}
 use Rattle.player.proofs.StepsLeft.{stepsLeft, fewer}
 use Rattle.player.proofs.fill.Statement.{statement}

@@ -9,8 +9,9 @@ use Rattle.protocol.specs.Lengths.{frameLen}
 use Rattle.protocol.specs.declared.Cause.the-variants.{BadLength}
 use Rattle.recording.specs.Found.{foundAt}
 use Rattle.recording.proofs.FoundLaws.{frame-says}
-use Rattle.steps.specs.Outcomes.{printedOn}
-use Rattle.steps.proofs.StepOutcomes.{ends, parts, stands, stop-line, end-line}
+use Rattle.reporting.specs.Outcomes.{printedOn}
+use Rattle.reporting.proofs.FrameOutcomes.{stop-line}
+use Rattle.steps.proofs.StepOutcomes.{ends, parts, stands, end-line}
 use Rattle.steps.proofs.step.Statement.{statement}
 use Rattle.steps.proofs.step.Tie as tie
 

@@ -8,11 +8,11 @@ use denote.Ref.{now}
 use lib.Dec.{leb}
 use lib.ListN.{length}
 use Rattle.protocol.specs.Calls.{Reported}
-use Rattle.steps.specs.Steps.{reportAct}
-use Rattle.steps.specs.Outcomes.{printedOn}
-use Rattle.steps.proofs.StepOutcomes.{frame-stops, frame-reports, stop-line, report-line}
-use Rattle.steps.proofs.at_frame.Statement.{statement}
-use Rattle.steps.proofs.at_frame.Tie as tie
+use Rattle.reporting.specs.Acts.{reportAct}
+use Rattle.reporting.specs.Outcomes.{printedOn}
+use Rattle.reporting.proofs.FrameOutcomes.{frame-stops, frame-reports, stop-line, report-line}
+use Rattle.reporting.proofs.at_frame.Statement.{statement}
+use Rattle.reporting.proofs.at_frame.Tie as tie
 
 abbrev start : tie.After-stop-of → tie.Start
 start c = c .before .before .before .before .before .before

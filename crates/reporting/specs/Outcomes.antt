@@ -6,7 +6,7 @@ use lib.ListN.{length}
 use Rattle.lines.specs.Text.{written}
 use Rattle.progress.specs.declared.Player.{Player}
 use Rattle.progress.specs.declared.Progress.{Progress}
-use Rattle.steps.specs.Steps.{Act}
+use Rattle.reporting.specs.Acts.{Act}
 
 -- how far playing on came, and every lent list after it
 pub record Outcome : Type 0 where
