@@ -7,7 +7,10 @@ ghost use lib.ListN.{length, take, drop, replicate};
 // Writes the bytes over a slice, from the place `start`.
 pub fn write_at(out: &mut [u8], start: usize, bytes: &[u8])
     requires { ⌜ start + length (now bytes) ≤ length (now out) ⌝ }
-    ensures { λ _. ⌜ now (out .exit) ≡ take start (now (out .entry)) ++ now (bytes .entry) ++ drop (start + length (now (bytes .entry))) (now (out .entry)) ⌝ }
+    ensures { λ _. ⌜
+        now (out .exit)
+        ≡ take start (now (out .entry)) ++ now (bytes .entry) ++ drop (start + length (now (bytes .entry))) (now (out .entry))
+        ⌝ }
 {
     let mut i: usize = 0;
     while i < bytes.len() {

@@ -1,2 +1,2 @@
--- What clashes, by the sums of all lanes.
+-- Working definitions: what clashes, by the sums of all lanes.
 pub mod Clashes

@@ -1,4 +1,4 @@
--- Settings, the entries of the generator matrix and its words, in the order of document 01.
+-- To be believed, in the order of document 01: settings, the entries of the generator matrix, its words, and which of them fit.
 pub mod Settings
 pub mod Matrix
 pub mod Word

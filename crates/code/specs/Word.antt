@@ -32,7 +32,7 @@ symbol s x p =
 unfoldable pub unit : ℕ → ℕ → ℕ
 unit i m = cond (eqb m i) 1 0
 
--- the systematic form, as 16 rows of 16: row i is the word whose first k symbols are the i-th unit; zeros for settings that are not accepted
+-- the systematic form, as 16 rows of 16: row i is the word whose first k symbols are the i-th unit; zeros for settings not accepted
 unfoldable pub systematicOf : Settings → List (List ℕ)
 systematicOf s =
     elim (accepted s) [

@@ -1,2 +1,2 @@
--- What is told of a symbol, and the worst mark so far.
+-- Working definitions: what is told of a symbol, and the worst mark so far.
 pub mod Decision

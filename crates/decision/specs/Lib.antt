@@ -1,2 +1,2 @@
--- The decision as a call.
+-- Working definitions: the decision as a call, which both reports go through.
 pub mod Call

@@ -1,3 +1,4 @@
--- What the fitting words say of a symbol, and the elimination that decides it.
+-- To be believed: what the fitting words say of a symbol.
 pub mod Values
+-- Working definitions: the elimination that decides it.
 pub mod Elimination

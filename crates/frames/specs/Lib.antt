@@ -1,2 +1,2 @@
--- What the contracts cite.
+-- To be believed: what bytes say of themselves, for the player and the static library.
 pub mod Fields

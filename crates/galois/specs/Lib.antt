@@ -1,4 +1,5 @@
--- What the contracts of the two fields say, in the order of the document.
+-- To be believed, in the order of the document: Narrow and Byte. Bounded, Sum and Table are the tests, sums and lists that they and the
+-- crates above are written with.
 pub mod Bounded
 pub mod Narrow
 pub mod Byte

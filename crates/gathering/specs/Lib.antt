@@ -1,2 +1,2 @@
--- What the contracts over a table of pairs cite.
+-- Working definitions: a table of vectors in pairs.
 pub mod Pairs

@@ -1,2 +1,2 @@
--- The generator matrix as rows, and where the source symbols of a row end.
+-- Working definitions: the generator matrix as rows, and where the source symbols of a row end.
 pub mod Matrix

@@ -1,2 +1,2 @@
--- What elimination says of all lanes.
+-- Working definitions: what elimination says of all lanes.
 pub mod Lanes

@@ -1,2 +1,2 @@
--- The numbers of the static library's replies.
+-- To be believed: which numbers of the static library's replies are acceptances.
 pub mod Numbers

@@ -1,4 +1,4 @@
--- The static library's calls, one by one and in lists, and demands 1 and 3 about them.
+-- To be believed: the static library's calls, one by one and in lists, and demands 1 and 3 about them.
 pub mod Causes
 pub mod Calls
 pub mod Chains

@@ -1,3 +1,4 @@
--- The lines, and what is left of a lent line by a writer.
+-- To be believed: the lines.
 pub mod Text
+-- Working definitions: what a writer leaves of a lent line.
 pub mod Lent

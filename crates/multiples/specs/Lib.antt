@@ -1,2 +1,2 @@
--- What the contracts of the multiples cite.
+-- Working definitions: the multiples of a row.
 pub mod Quarters

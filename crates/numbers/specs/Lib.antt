@@ -1,2 +1,2 @@
--- Numbers and bytes in digits.
+-- To be believed: numbers and bytes in digits.
 pub mod Digits

@@ -48,7 +48,11 @@ fn place_sources(
     roles: &mut [u8; 16],
 ) -> usize
     requires { ⌜ Ready s (now rows) t × (i < kOf s) × (now places ≡ replicate 16 0) × (now roles ≡ replicate 16 16) ⌝ }
-    ensures { λ r. ⌜ (r ≡ rowAt s t i (kOf s)) × (now (places .exit) ≡ placesTo s t i (kOf s)) × (now (roles .exit) ≡ firstRoles s (knownIn s (flagsOf s (now (rows .entry)) end t i))) ⌝ }
+    ensures { λ r. ⌜
+        (r ≡ rowAt s t i (kOf s))
+        × (now (places .exit) ≡ placesTo s t i (kOf s))
+        × (now (roles .exit) ≡ firstRoles s (knownIn s (flagsOf s (now (rows .entry)) end t i)))
+        ⌝ }
 {
     let lanes = s.lanes as usize;
     let mut start = first_start(s, t, i);
@@ -77,7 +81,13 @@ fn place_parities(
     places: &mut [usize; 16],
     flags: &mut [u8; 16],
 )
-    requires { ⌜ Ready s (now rows) t × (i < kOf s) × (first ≡ rowAt s t i (kOf s)) × (now places ≡ placesTo s t i (kOf s)) × (now flags ≡ replicate 16 0) ⌝ }
+    requires { ⌜
+        Ready s (now rows) t
+        × (i < kOf s)
+        × (first ≡ rowAt s t i (kOf s))
+        × (now places ≡ placesTo s t i (kOf s))
+        × (now flags ≡ replicate 16 0)
+        ⌝ }
     ensures { λ _. ⌜ (now (places .exit) ≡ placesOf s t i) × (now (flags .exit) ≡ parityFlags s (flagsOf s (now (rows .entry)) end t i)) ⌝ }
 {
     let lanes = s.lanes as usize;
@@ -105,8 +115,18 @@ pub fn locate(
     flags: &mut [u8; 16],
     roles: &mut [u8; 16],
 )
-    requires { ⌜ Ready s (now rows) t × (i < kOf s) × (now places ≡ replicate 16 0) × (now flags ≡ replicate 16 0) × (now roles ≡ replicate 16 16) ⌝ }
-    ensures { λ _. ⌜ (now (places .exit) ≡ placesOf s t i) × (now (flags .exit) ≡ parityFlags s (flagsOf s (now (rows .entry)) end t i)) × (now (roles .exit) ≡ firstRoles s (knownIn s (flagsOf s (now (rows .entry)) end t i))) ⌝ }
+    requires { ⌜
+        Ready s (now rows) t
+        × (i < kOf s)
+        × (now places ≡ replicate 16 0)
+        × (now flags ≡ replicate 16 0)
+        × (now roles ≡ replicate 16 16)
+        ⌝ }
+    ensures { λ _. ⌜
+        (now (places .exit) ≡ placesOf s t i)
+        × (now (flags .exit) ≡ parityFlags s (flagsOf s (now (rows .entry)) end t i))
+        × (now (roles .exit) ≡ firstRoles s (knownIn s (flagsOf s (now (rows .entry)) end t i)))
+        ⌝ }
 {
     let first = place_sources(s, rows, end, t, i, places, roles);
     place_parities(s, rows, end, t, i, first, places, flags);

@@ -1,4 +1,5 @@
--- What a recording prints; buffers filled by steps; and what they hand out.
+-- To be believed: what a recording prints, and `Playing`, that what is handed out is that.
 pub mod Transcript
-pub mod Filling
 pub mod Printed
+-- What `Playing` ties to it: buffers filled by steps.
+pub mod Filling

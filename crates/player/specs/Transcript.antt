@@ -44,7 +44,8 @@ played [] x rows message = []
 played (frame ∷ frames) x rows message =
     elim (frameStop x frame) [
       | answer.Refused c ↦ stopLine c
-      | answer.Accepted ↦ skipped (slotIn frame - x .due) (λ y rows' message'. andThen y (heardOf y rows' frame message') (played frames)) x rows message
+      | answer.Accepted ↦
+          skipped (slotIn frame - x .due) (λ y rows' message'. andThen y (heardOf y rows' frame message') (played frames)) x rows message
     ]
 
 -- a recording that passes, played by a receiver that is opened for it

@@ -1,2 +1,2 @@
--- What the contracts cite.
+-- Working definitions: what a step tells.
 pub mod Refusal

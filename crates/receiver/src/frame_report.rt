@@ -11,7 +11,10 @@ ghost use Rattle.protocol.specs.Calls.{heardOf};
 
 // The report of a frame, for the slot due.
 pub fn heard(x: Receiver, rows: &mut [u8], frame: &[u8], message: &mut [u8]) -> Reported
-    ensures { λ r. ⌜ record { reply = r .reply; receiver = r .receiver; rows = now (rows .exit); message = now (message .exit) } ≡ heardOf x (now (rows .entry)) (now (frame .entry)) (now (message .entry)) ⌝ }
+    ensures { λ r. ⌜
+        record { reply = r .reply; receiver = r .receiver; rows = now (rows .exit); message = now (message .exit) }
+        ≡ heardOf x (now (rows .entry)) (now (frame .entry)) (now (message .entry))
+        ⌝ }
 {
     let found = frame_cause(1, x, rows, frame, message);
     if let Answer::Refused(c) = found {

@@ -11,7 +11,10 @@ ghost use Rattle.protocol.specs.Calls.{lossOf};
 
 // The report that the slot due was lost.
 pub fn loss(x: Receiver, rows: &mut [u8], message: &mut [u8]) -> Reported
-    ensures { λ r. ⌜ record { reply = r .reply; receiver = r .receiver; rows = now (rows .exit); message = now (message .exit) } ≡ lossOf x (now (rows .entry)) (now (message .entry)) ⌝ }
+    ensures { λ r. ⌜
+        record { reply = r .reply; receiver = r .receiver; rows = now (rows .exit); message = now (message .exit) }
+        ≡ lossOf x (now (rows .entry)) (now (message .entry))
+        ⌝ }
 {
     let found = loss_cause(x, rows, message);
     if let Answer::Refused(c) = found {

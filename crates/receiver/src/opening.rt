@@ -17,7 +17,10 @@ pub struct Opened {
 
 // Opens a receiver at slot 0, its rows received zeros.
 pub fn open(s: Settings, rows: &mut [u8]) -> Opened
-    ensures { λ r. ⌜ record { answer = r .answer; receiver = r .receiver; rows = now (rows .exit) } ≡ openReceiverOf s (now (rows .entry)) ⌝ }
+    ensures { λ r. ⌜
+        record { answer = r .answer; receiver = r .receiver; rows = now (rows .exit) }
+        ≡ openReceiverOf s (now (rows .entry))
+        ⌝ }
 {
     let none = Receiver::NONE;
     if !s.accepted() {

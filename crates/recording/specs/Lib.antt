@@ -1,2 +1,2 @@
--- What stands at an offset of a recording.
+-- Working definitions: what stands at an offset of a recording.
 pub mod Found

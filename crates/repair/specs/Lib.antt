@@ -1,3 +1,4 @@
--- What the theorems on repair are about.
-pub mod Polynomial
+-- To be believed: which losses are fair.
 pub mod Fair
+-- Working definitions: polynomials by their coefficients.
+pub mod Polynomial

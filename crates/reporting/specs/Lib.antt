@@ -1,3 +1,3 @@
--- What the contracts cite.
+-- Working definitions: what a step comes to, and what it leaves in a lent line.
 pub mod Acts
 pub mod Outcomes

@@ -28,7 +28,10 @@ pub fn receive_zeros(rows: &mut [u8], size: usize)
 // A row that was received: 1, and the body.
 fn write_received(rows: &mut [u8], start: usize, body: &[u8])
     requires { ⌜ start + (1 + length (now body)) ≤ length (now rows) ⌝ }
-    ensures { λ _. ⌜ now (rows .exit) ≡ take start (now (rows .entry)) ++ (1 ∷ now (body .entry)) ++ drop (start + (1 + length (now (body .entry)))) (now (rows .entry)) ⌝ }
+    ensures { λ _. ⌜
+        now (rows .exit)
+        ≡ take start (now (rows .entry)) ++ (1 ∷ now (body .entry)) ++ drop (start + (1 + length (now (body .entry)))) (now (rows .entry))
+        ⌝ }
 {
     rows[start] = 1;
     buffers::write_at(rows, start + 1, body);

@@ -61,7 +61,10 @@ fn refused(c: Cause, x: Sender) -> Sent
 
 // Hands out the frame of the slot due, and remembers the message.
 pub fn send(x: Sender, rows: &mut [u8], message: &[u8], frame: &mut [u8]) -> Sent
-    ensures { λ r. ⌜ record { answer = r .answer; sender = r .sender; rows = now (rows .exit); frame = now (frame .exit) } ≡ sendOf x (now (rows .entry)) (now (message .entry)) (now (frame .entry)) ⌝ }
+    ensures { λ r. ⌜
+        record { answer = r .answer; sender = r .sender; rows = now (rows .exit); frame = now (frame .exit) }
+        ≡ sendOf x (now (rows .entry)) (now (message .entry)) (now (frame .entry))
+        ⌝ }
 {
     let s = x.settings;
     if !s.accepted() {

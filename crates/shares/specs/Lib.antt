@@ -1,2 +1,2 @@
--- The bytes that stand at the pivots' positions.
+-- Working definitions: the bytes that stand at the pivots' positions.
 pub mod Shares

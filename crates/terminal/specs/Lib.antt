@@ -1,2 +1,2 @@
--- What the terminal's functions say.
+-- Working definitions: a report with a flag that says whether there was a frame.
 pub mod Given

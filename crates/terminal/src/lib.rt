@@ -8,7 +8,10 @@ ghost use Rattle.terminal.specs.Given.{reportIn};
 
 // A report by value: of a frame where `heard`, else of a loss, which has no frame to read.
 fn reported(x: Receiver, rows: &mut [u8], heard: bool, frame: &[u8], message: &mut [u8]) -> Reported
-    ensures { λ r. ⌜ record { reply = r .reply; receiver = r .receiver; rows = now (rows .exit); message = now (message .exit) } ≡ reportOf x (now (rows .entry)) (reportIn heard (now (frame .entry)) (now (message .entry))) ⌝ }
+    ensures { λ r. ⌜
+        record { reply = r .reply; receiver = r .receiver; rows = now (rows .exit); message = now (message .exit) }
+        ≡ reportOf x (now (rows .entry)) (reportIn heard (now (frame .entry)) (now (message .entry)))
+        ⌝ }
 {
     if heard {
         return receiver::heard(x, rows, frame, message);
@@ -24,7 +27,10 @@ pub fn report(
     frame: &[u8],
     message: &mut [u8],
 ) -> Reply
-    ensures { λ r. ⌜ record { reply = r; receiver = now (x .exit); rows = now (rows .exit); message = now (message .exit) } ≡ reportOf (now (x .entry)) (now (rows .entry)) (reportIn heard (now (frame .entry)) (now (message .entry))) ⌝ }
+    ensures { λ r. ⌜
+        record { reply = r; receiver = now (x .exit); rows = now (rows .exit); message = now (message .exit) }
+        ≡ reportOf (now (x .entry)) (now (rows .entry)) (reportIn heard (now (frame .entry)) (now (message .entry)))
+        ⌝ }
 {
     let r = reported(*x, rows, heard, frame, message);
     *x = r.receiver;
@@ -39,7 +45,10 @@ pub fn report_kept(
     frame: &[u8],
     message: &mut [u8],
 ) -> Reported
-    ensures { λ k. ⌜ record { reply = k .reply; receiver = k .receiver; rows = now (rows .exit); message = now (message .exit) } ≡ reportOf x (now (rows .entry)) (reportIn heard (now (frame .entry)) (now (message .entry))) ⌝ }
+    ensures { λ k. ⌜
+        record { reply = k .reply; receiver = k .receiver; rows = now (rows .exit); message = now (message .exit) }
+        ≡ reportOf x (now (rows .entry)) (reportIn heard (now (frame .entry)) (now (message .entry)))
+        ⌝ }
 {
     let mut kept = x;
     let reply = report(&mut kept, rows, heard, frame, message);

@@ -1,2 +1,2 @@
--- The calls in cut buffers.
+-- Working definitions of a test program: the calls in cut buffers.
 pub mod Cuts

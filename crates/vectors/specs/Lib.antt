@@ -1,3 +1,3 @@
--- What the contracts of the weighted sums cite.
+-- Working definitions: weighted sums, and the halves of their coefficients.
 pub mod Weighted
 pub mod Halves

@@ -34,7 +34,10 @@ fn plus(x: u8, y: u8) -> u8
 // Adds a vector, lane by lane; its lanes are bytes.
 fn add(sum: &mut [u8; 64], vector: &[u8; 64])
     requires { ⌜ length (now sum) ≡ 64 ⌝ }
-    ensures { λ _. ⌜ (now (sum .exit) ≡ table 64 (λ v. getD (now (sum .entry)) v 0 ⊕ getD (now (vector .entry)) v 0)) × ((v : ℕ) → v < 64 → getD (now (vector .entry)) v 0 < 256) ⌝ }
+    ensures { λ _. ⌜
+        (now (sum .exit) ≡ table 64 (λ v. getD (now (sum .entry)) v 0 ⊕ getD (now (vector .entry)) v 0))
+        × ((v : ℕ) → v < 64 → getD (now (vector .entry)) v 0 < 256)
+        ⌝ }
 {
     let mut v: usize = 0;
     while v < 64 {
@@ -74,7 +77,12 @@ fn high_halves(rows: &[[u8; 16]; 16], q: usize, count: usize) -> [u8; 8]
 // Adds the vectors whose half has bit t.
 fn add_plane(total: &mut [u8; 64], halves: &[u8; 8], t: u32, pairs: &[[u8; 64]; 32], count: usize)
     requires { ⌜ (length (now total) ≡ 64) × (t < 4) × (count ≤ 8) × Paired count (now pairs) ⌝ }
-    ensures { λ _. ⌜ now (total .exit) ≡ table 64 (λ v. getD (now (total .entry)) v 0 ⊕ sum (count * 2) (λ i. (halfOf (now (halves .entry)) i / 2 ^ t % 2) ⊗ getD (vectorOf (now (pairs .entry)) i) v 0)) ⌝ }
+    ensures { λ _. ⌜
+        now (total .exit)
+        ≡ table 64 (λ v.
+        getD (now (total .entry)) v 0
+        ⊕ sum (count * 2) (λ i. (halfOf (now (halves .entry)) i / 2 ^ t % 2) ⊗ getD (vectorOf (now (pairs .entry)) i) v 0))
+        ⌝ }
 {
     let mut j: usize = 0;
     while j < count {
