@@ -8,7 +8,7 @@ use lib.ListN.{getD}
 use borrow.Author.Tests.{lt-ltb, le-ltb}
 use Rattle.galois.specs.Narrow.{_⊠_}
 use Rattle.galois.specs.Table.{table}
-use Rattle.fields.specs.declared.narrow.Gf16.{Gf16}
+use Rattle.gf16.specs.declared.Gf16.{Gf16}
 use Rattle.galois.proofs.ByIndex.{getD-table, table-equal}
 use Rattle.code.specs.Matrix.{point, factor, product, gf16, productRow}
 

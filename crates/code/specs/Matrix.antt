@@ -6,7 +6,7 @@ use lib.Dec.{eqb, ltb, leb}
 use Rattle.galois.specs.Narrow.{_⊞_, _⊠_, narrowQuotient}
 use Rattle.galois.specs.Byte.{alpha, widen}
 use Rattle.galois.specs.Table.{table}
-use Rattle.fields.specs.declared.narrow.Gf16.{Gf16}
+use Rattle.gf16.specs.declared.Gf16.{Gf16}
 use Rattle.code.specs.declared.settings.Settings.{Settings}
 use Rattle.code.specs.Settings.{delayOf, kOf, nOf, dOf}
 

@@ -1,8 +1,3 @@
--- The laws of marks, flags and answers that the functions' proofs cite.
-pub mod SameValues
+-- The laws of marks and of parts of a buffer that the functions' proofs cite.
 pub mod Marks
-pub mod LaneSaid
-pub mod Answers
-pub mod ParityFlags
-pub mod Pivots
 pub mod Parts

@@ -13,7 +13,7 @@ use Rattle.code.specs.Settings.{kOf}
 use Rattle.protocol.specs.declared.Reply.{Reply}
 use Rattle.protocol.specs.declared.Reply.the-variants as reply
 use Rattle.protocol.specs.Verdict.{symbolSaid, isClash, isLost, someCodeword, noneFits, twoDiffer, verdict}
-use Rattle.deciding.specs.Decision.{mark, lanesMark, symbolsMark}
+use Rattle.symbols.specs.Decision.{mark, lanesMark, symbolsMark}
 
 abbrev pub larger : ℕ → ℕ → ℕ
 larger a b = cond (ltb a b) b a

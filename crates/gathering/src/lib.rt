@@ -1,5 +1,5 @@
 // Sixteen vectors of lanes in eight pairs, each with zeros and with its sum: bytes put over the two vectors of a pair, and over their sum.
-use fields::Gf256;
+use gf256::Gf256;
 ghost use mathlib.Core.Path.{_≡_};
 ghost use Prim.Native.Nat.{_+_, _<_, _≤_};
 ghost use lib.ListN.{length};

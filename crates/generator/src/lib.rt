@@ -1,5 +1,4 @@
-// The generator matrix and its systematic form.
-mod encoder;
+// The generator matrix.
 mod matrix;
 
-pub use encoder::systematic;
+pub use matrix::generator;

@@ -1,7 +1,7 @@
 // The generator matrix G: the spread form widened, with α times the identity in the rows below d.
 use code::Settings;
-use fields::Gf16;
-use fields::Gf256;
+use gf16::Gf16;
+use gf256::Gf256;
 use spread::spread_row;
 ghost use mathlib.Core.Path.{_≡_};
 ghost use Prim.Native.Nat.{_<_};
@@ -29,11 +29,11 @@ fn entry(s: Settings, row: u8, position: u8, number: Gf16) -> u8
         return 0;
     }
     if s.alpha_rows() <= row as usize {
-        return number.widen().0;
+        return Gf256::widened(number).0;
     }
     let delay = s.effective_delay();
     if position < delay {
-        return number.widen().0;
+        return Gf256::widened(number).0;
     }
     alpha_entry(delay, row, position)
 }
@@ -57,7 +57,7 @@ fn generator_row(s: Settings, row: u8) -> [u8; 16]
 }
 
 // G, in an array of 16 rows.
-pub(crate) fn generator(s: Settings) -> [[u8; 16]; 16]
+pub fn generator(s: Settings) -> [[u8; 16]; 16]
     ensures { λ r. ⌜ r ≡ generatorOf s ⌝ }
 {
     let mut rows = [[0u8; 16]; 16];

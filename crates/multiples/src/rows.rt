@@ -1,6 +1,6 @@
 // Multiples of rows. A byte is the sum of its four digits in base 4, each by its power of 4, so that a multiple of a row is the sum of
 // four out of 16 multiples, which are made once for all the bytes that multiply the row.
-use fields::Gf256;
+use gf256::Gf256;
 ghost use mathlib.Core.Path.{_≡_};
 ghost use lib.ListN.{getD};
 ghost use Rattle.galois.specs.Byte.{_⊗_};

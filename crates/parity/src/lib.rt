@@ -3,7 +3,7 @@ mod sources;
 
 use buffers::write_at;
 use code::Settings;
-use generator::systematic;
+use encoder::systematic;
 use sources::gather;
 use vectors::weighted;
 ghost use mathlib.Core.Path.{_≡_};

@@ -75,8 +75,8 @@ fn pattern(s: Settings, j: u8, x: &mut u64)
     let places = [0usize, 1, 2, 3, 4, 5, 6, 7, 8, 9, 10, 11, 12, 13, 14, 15];
     let mut roles = first_roles(s, &flags);
     let mut left = parities(s, &flags);
-    let matrix = generator::systematic(s);
-    let reciprocals = fields::reciprocals();
+    let matrix = encoder::systematic(s);
+    let reciprocals = gf256::reciprocals();
     let rows = reduction::eliminate(s, &reciprocals, matrix, &mut left, &mut roles);
     let mut symbol = [0u8; 1];
     let mark = lanes::answer(s, &rows, &roles, &left, &places, &bytes, i, &mut symbol);

@@ -1,7 +1,7 @@
 // The bytes of a pattern: a codeword, one with a byte changed, or any.
 use crate::random;
 use code::Settings;
-use fields::Gf256;
+use gf256::Gf256;
 ghost use Prim.Native.Nat.{_≤_, _<_};
 ghost use Rattle.code.specs.Settings.{nOf};
 
@@ -19,7 +19,7 @@ fn symbol(rows: &[[u8; 16]; 16], symbols: &[u8; 16], p: usize) -> u8
 }
 
 fn codeword(s: Settings, symbols: [u8; 16]) -> [u8; 16] {
-    let rows = generator::systematic(s);
+    let rows = encoder::systematic(s);
     let mut out = [0u8; 16];
     let mut p: usize = 0;
     while p < 16 {

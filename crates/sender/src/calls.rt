@@ -1,10 +1,10 @@
 // The sender's two calls. Each takes any input at all, and a refused call changes nothing.
-use crate::frame::write_frame;
 use crate::lengths::exact;
-use crate::rows::remember;
 use buffers::clear;
 use buffers::sender_len;
 use code::Settings;
+use framing::remember;
+use framing::write_frame;
 use protocol::Answer;
 use protocol::Cause;
 use protocol::Sender;

@@ -1,8 +1,6 @@
 // The sender: its opening, and a send, which turns a message into the frame of the slot due.
 mod calls;
-mod frame;
 mod lengths;
-mod rows;
 
 pub use calls::Opened;
 pub use calls::Sent;

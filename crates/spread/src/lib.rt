@@ -1,5 +1,5 @@
 // The rows of the spread form: products over zero points, at all positions at once.
-use fields::Gf16;
+use gf16::Gf16;
 ghost use mathlib.Core.Path.{_≡_};
 ghost use lib.ListN.{getD};
 ghost use Rattle.galois.specs.Narrow.{_⊞_, _⊠_};

@@ -1,3 +1,2 @@
--- Working definitions: weighted sums, and the halves of their coefficients.
+-- Working definitions: weighted sums.
 pub mod Weighted
-pub mod Halves

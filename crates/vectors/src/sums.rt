@@ -1,8 +1,10 @@
 // Weighted sums of the vectors of a table of pairs. The coefficients are taken bit by bit, so that a sum stays in registers; the halves of
 // the two coefficients of a pair stand in one byte, so that two bits of it pick one entry of the pair.
-use fields::Gf256;
+use gf256::Gf256;
+use halves::bits_used;
+use halves::high_halves;
+use halves::low_halves;
 ghost use mathlib.Core.Path.{_≡_};
-ghost use mathlib.Core.List.{[]};
 ghost use Prim.Native.Nat.{ℕ, _*_, _/_, _%_, _^_, _<_, _≤_};
 ghost use lib.ListN.{length, getD};
 ghost use Rattle.galois.specs.Byte.{_⊕_, _⊗_};
@@ -10,7 +12,7 @@ ghost use Rattle.galois.specs.Sum.{sum};
 ghost use Rattle.galois.specs.Table.{table};
 ghost use Rattle.gathering.specs.Pairs.{Paired, vectorOf};
 ghost use Rattle.vectors.specs.Weighted.{weightedOf};
-ghost use Rattle.vectors.specs.Halves.{halfOf, halvesSum, Under};
+ghost use Rattle.halves.specs.Halves.{halfOf, halvesSum};
 
 // z times each lane.
 fn double(sum: &mut [u8; 64])
@@ -46,34 +48,6 @@ fn add(sum: &mut [u8; 64], vector: &[u8; 64])
     }
 }
 
-// The low halves of the coefficients in column q, two in a byte: that of vector 2j below that of vector 2j + 1.
-fn low_halves(rows: &[[u8; 16]; 16], q: usize, count: usize) -> [u8; 8]
-    requires { ⌜ (q < 16) × (count ≤ 8) ⌝ }
-    ensures { λ r. ⌜ ((i : ℕ) → i < count * 2 → halfOf r i ≡ getD (getD (now (rows .entry)) i []) q 0 % 16) ⌝ }
-{
-    let mut out = [0u8; 8];
-    let mut j: usize = 0;
-    while j < count {
-        out[j] = rows[2 * j][q] % 16 + rows[2 * j + 1][q] % 16 * 16;
-        j += 1;
-    }
-    out
-}
-
-// The high halves of the coefficients in column q, in the same order.
-fn high_halves(rows: &[[u8; 16]; 16], q: usize, count: usize) -> [u8; 8]
-    requires { ⌜ (q < 16) × (count ≤ 8) ⌝ }
-    ensures { λ r. ⌜ ((i : ℕ) → i < count * 2 → halfOf r i ≡ getD (getD (now (rows .entry)) i []) q 0 / 16 % 16) ⌝ }
-{
-    let mut out = [0u8; 8];
-    let mut j: usize = 0;
-    while j < count {
-        out[j] = rows[2 * j][q] / 16 % 16 + rows[2 * j + 1][q] / 16 % 16 * 16;
-        j += 1;
-    }
-    out
-}
-
 // Adds the vectors whose half has bit t.
 fn add_plane(total: &mut [u8; 64], halves: &[u8; 8], t: u32, pairs: &[[u8; 64]; 32], count: usize)
     requires { ⌜ (length (now total) ≡ 64) × (t < 4) × (count ≤ 8) × Paired count (now pairs) ⌝ }
@@ -105,20 +79,6 @@ fn by_nibble(halves: &[u8; 8], pairs: &[[u8; 64]; 32], count: usize) -> [u8; 64]
     double(&mut total);
     add_plane(&mut total, halves, 0, pairs, count);
     total
-}
-
-// The bits that some byte of halves has: no half of such a byte is above theirs.
-fn bits_used(halves: &[u8; 8], count: usize) -> u8
-    requires { ⌜ count ≤ 8 ⌝ }
-    ensures { λ r. ⌜ ((j : ℕ) → j < count → Under (getD (now (halves .entry)) j 0) r) ⌝ }
-{
-    let mut bits: u8 = 0;
-    let mut j: usize = 0;
-    while j < count {
-        bits = bits | halves[j];
-        j += 1;
-    }
-    bits
 }
 
 // The same sum as by_nibble: one plane where no half is above 1.

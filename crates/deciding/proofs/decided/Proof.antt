@@ -14,9 +14,9 @@ use Rattle.code.proofs.Shape.{Shape, shape}
 use Rattle.galois.proofs.ByIndex.{is-table}
 use Rattle.protocol.specs.Lengths.{messageLen}
 use Rattle.protocol.specs.Verdict.{sharedBytes, bufferOf}
-use Rattle.deciding.specs.Decision.{mark, symbolsMark, sharedByte}
+use Rattle.symbols.specs.Decision.{mark, symbolsMark, sharedByte}
 use Rattle.deciding.proofs.Marks.{larger, larger-zero, symbols-more, verdict-whole, verdict-lost, verdict-clash}
-use Rattle.deciding.proofs.LaneSaid.{byte-said}
+use Rattle.symbols.proofs.LaneSaid.{byte-said}
 use Rattle.deciding.proofs.Parts.{part-filled}
 use Rattle.deciding.proofs.decided.Statement.{statement}
 use Rattle.deciding.proofs.decided.Tie as tie

@@ -18,7 +18,7 @@ returns-2 : tie.Need-returns-2
 returns-2 c =
     let start = c .before .before .before .before .before in
     let a = start .args in
-    c .widen .ensures ∙ ap widen (start .pre .1)
+    c .widened .ensures ∙ ap widen (start .pre .1)
     ∙ sym (entry-spread-row (a .s) (a .row) (a .position) (start .pre .0) (omega arith) (omega arith))
 
 -- and so is any row before position T
@@ -26,7 +26,7 @@ returns-3 : tie.Need-returns-3
 returns-3 c =
     let start = c .before .before .before .before .before .before .before in
     let a = start .args in
-    c .widen2 .ensures ∙ ap widen (start .pre .1)
+    c .widened2 .ensures ∙ ap widen (start .pre .1)
     ∙ sym (entry-spread-before (a .s) (a .row) (a .position) (start .pre .0) (omega arith) (omega arith))
 
 returns-4 : tie.Need-returns-4

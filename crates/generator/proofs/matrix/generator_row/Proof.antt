@@ -7,7 +7,7 @@ use native.Mathlib.Omega.{arith}
 use Prim.Native.Nat.{ℕ, _-_, _<_, _≤_, zero-le}
 use lib.ListN.{length, getD, length-set}
 use Rattle.galois.specs.Table.{table}
-use Rattle.fields.specs.declared.narrow.Gf16.{Gf16}
+use Rattle.gf16.specs.declared.Gf16.{Gf16}
 use Rattle.galois.proofs.ByIndex.{is-table, getD-table, table-equal, filled-more}
 use Rattle.code.specs.declared.settings.Settings.{Settings}
 use Rattle.code.specs.Settings.{delayOf, kOf}

@@ -10,7 +10,7 @@ use Rattle.galois.specs.Byte.{_⊕_}
 use Rattle.galois.specs.Sum.{sum}
 use Rattle.galois.proofs.ByIndex.{is-table, getD-table, length-table}
 use Rattle.galois.proofs.Xor.{plus-assoc, plus-zero}
-use Rattle.vectors.proofs.Planes.{lane, termAt, at-most-17, next-pair}
+use Rattle.halves.proofs.Planes.{lane, termAt, at-most-17, next-pair}
 use Rattle.vectors.proofs.sums.add_plane.Statement.{statement}
 use Rattle.vectors.proofs.sums.add_plane.Tie as tie
 

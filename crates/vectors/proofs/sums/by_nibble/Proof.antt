@@ -9,8 +9,8 @@ use Rattle.galois.specs.Byte.{_⊕_, _⊗_}
 use Rattle.galois.specs.Sum.{sum}
 use Rattle.galois.proofs.ByIndex.{length-table, table-equal}
 use Rattle.gathering.specs.Pairs.{vectorOf}
-use Rattle.vectors.specs.Halves.{halfOf, halvesSum}
-use Rattle.vectors.proofs.Planes.{termAt, four-planes, by-four-bits}
+use Rattle.halves.specs.Halves.{halfOf, halvesSum}
+use Rattle.halves.proofs.Planes.{termAt, four-planes, by-four-bits}
 use Rattle.vectors.proofs.sums.by_nibble.Statement.{statement}
 use Rattle.vectors.proofs.sums.by_nibble.Tie as tie
 

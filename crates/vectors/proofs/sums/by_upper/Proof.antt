@@ -1,7 +1,7 @@
 -- Where no half is above 1 it is its bit 0, so one plane is the sum; else all four bits are taken.
 use borrow.Author.Needs.{needs}
 use denote.Ref.{now}
-use Rattle.vectors.proofs.Planes.{halves-small, one-plane}
+use Rattle.halves.proofs.Planes.{halves-small, one-plane}
 use Rattle.vectors.proofs.sums.by_upper.Statement.{statement}
 use Rattle.vectors.proofs.sums.by_upper.Tie as tie
 

@@ -12,8 +12,8 @@ use Rattle.galois.specs.Sum.{sum}
 use Rattle.galois.proofs.ByIndex.{is-table, filled-more}
 use Rattle.gathering.specs.Pairs.{vectorOf}
 use Rattle.vectors.specs.Weighted.{weightedOf}
-use Rattle.vectors.specs.Halves.{halfOf, halvesSum}
-use Rattle.vectors.proofs.Planes.{lane-of, by-both-halves}
+use Rattle.halves.specs.Halves.{halfOf, halvesSum}
+use Rattle.halves.proofs.Planes.{lane-of, by-both-halves}
 use Rattle.vectors.proofs.sums.weighted.Statement.{statement}
 use Rattle.vectors.proofs.sums.weighted.Tie as tie
 

@@ -1,0 +1,2 @@
+-- The laws of a frame's body.
+pub mod Bodies

@@ -1,3 +1,0 @@
--- The laws of weighted sums.
-mod Halves
-pub mod Planes
