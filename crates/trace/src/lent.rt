@@ -1,5 +1,6 @@
 // The calls, and the line of each. A buffer has one byte 0 behind its exact length: how many bytes at its end are not lent is 0 for a
 // thing longer by one, 1 for one of exact length, 2 for one shorter by one.
+use crate::print;
 use code::Settings;
 use protocol::Receiver;
 use protocol::Sender;
@@ -48,7 +49,7 @@ pub fn open_sender(s: Settings, cut: usize, rows: &mut [u8]) -> Sender
 {
     let rows_end = end(rows.len(), cut);
     let opened = sender::open(s, &mut rows[0..rows_end]);
-    printing::opened_sender(opened, rows);
+    print::opened_sender(opened, rows);
     opened.sender
 }
 
@@ -58,7 +59,7 @@ pub fn open_receiver(s: Settings, cut: usize, rows: &mut [u8]) -> Receiver
 {
     let rows_end = end(rows.len(), cut);
     let opened = receiver::open(s, &mut rows[0..rows_end]);
-    printing::opened_receiver(opened, rows);
+    print::opened_receiver(opened, rows);
     opened.receiver
 }
 
@@ -79,7 +80,7 @@ pub fn send(call: Call, rows: &mut [u8], message: &[u8], frame: &mut [u8]) -> Se
         &message[0..message_end],
         &mut frame[0..frame_end],
     );
-    printing::sent(sent, call.shown, frame, rows);
+    print::sent(sent, call.shown, frame, rows);
     sent.sender
 }
 
@@ -100,7 +101,7 @@ pub fn heard(call: Call, rows: &mut [u8], frame: &[u8], buffer: &mut [u8]) -> Re
         &frame[0..frame_end],
         &mut buffer[0..buffer_end],
     );
-    printing::reported(b"frame", reported, call.shown, buffer, rows);
+    print::reported(b"frame", reported, call.shown, buffer, rows);
     reported.receiver
 }
 
@@ -115,6 +116,6 @@ pub fn loss(call: Call, rows: &mut [u8], buffer: &mut [u8]) -> Receiver
     let rows_end = end(rows.len(), call.rows);
     let buffer_end = end(buffer.len(), call.first);
     let reported = receiver::loss(x, &mut rows[0..rows_end], &mut buffer[0..buffer_end]);
-    printing::reported(b"loss", reported, call.shown, buffer, rows);
+    print::reported(b"loss", reported, call.shown, buffer, rows);
     reported.receiver
 }

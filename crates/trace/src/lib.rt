@@ -1,5 +1,6 @@
 // Calls of both ends in buffers that may be cut too short or too long, and the line that each call prints.
 mod lent;
+mod print;
 
 pub use lent::Call;
 pub use lent::end;

@@ -1,4 +1,4 @@
-// The line of each call, part by part. No contract can say what is printed, and nothing lent is changed.
+// The parts of a line. Each but the first has a space before it. No contract can say what is printed, and nothing lent is changed.
 use code::Settings;
 use protocol::Answer;
 use protocol::Reply;
@@ -77,25 +77,15 @@ fn sum(bytes: &[u8], count: usize) -> u64
     total
 }
 
-// A length without the byte behind it.
-fn but_one(length: usize) -> usize
-    ensures { λ r. ⌜ r ≤ length ⌝ }
-{
-    if length == 0 {
-        return 0;
-    }
-    length - 1
-}
-
 // The sum of all bytes but the last one.
 fn sum_of(bytes: &[u8]) {
-    let count = but_one(bytes.len());
+    let count = crate::lent::end(bytes.len(), 1);
     number(sum(bytes, count));
 }
 
 // All bytes from a place on, but for the last one.
 fn bytes_from(bytes: &[u8], first: usize) {
-    let count = but_one(bytes.len());
+    let count = crate::lent::end(bytes.len(), 1);
     let mut q = first;
     while q < count {
         number(wide(bytes[q]));
@@ -109,7 +99,7 @@ fn line_end() {
 }
 
 // The line of an opening of the sender.
-pub fn opened_sender(opened: sender::Opened, rows: &[u8]) {
+pub(crate) fn opened_sender(opened: sender::Opened, rows: &[u8]) {
     let a = opened.answer;
     let x = opened.sender;
     io::write_all(1, b"open-sender");
@@ -120,7 +110,7 @@ pub fn opened_sender(opened: sender::Opened, rows: &[u8]) {
 }
 
 // The line of an opening of the receiver.
-pub fn opened_receiver(opened: receiver::Opened, rows: &[u8]) {
+pub(crate) fn opened_receiver(opened: receiver::Opened, rows: &[u8]) {
     let a = opened.answer;
     let x = opened.receiver;
     io::write_all(1, b"open-receiver");
@@ -138,7 +128,7 @@ fn body(frame: &[u8]) {
 }
 
 // The line of a send.
-pub fn sent(sent: sender::Sent, shown: bool, frame: &[u8], rows: &[u8]) {
+pub(crate) fn sent(sent: sender::Sent, shown: bool, frame: &[u8], rows: &[u8]) {
     if shown {
         body(frame);
         return;
@@ -162,7 +152,13 @@ fn told(r: Reply, buffer: &[u8]) {
 }
 
 // The line of a report, from its first word on.
-pub fn reported(word: &[u8], r: receiver::Reported, shown: bool, buffer: &[u8], rows: &[u8]) {
+pub(crate) fn reported(
+    word: &[u8],
+    r: receiver::Reported,
+    shown: bool,
+    buffer: &[u8],
+    rows: &[u8],
+) {
     let a = r.reply;
     if shown {
         told(a, buffer);

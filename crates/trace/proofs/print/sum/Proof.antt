@@ -3,8 +3,8 @@ use borrow.Author.Needs.{needs}
 use native.Mathlib.Omega.{arith}
 use Prim.Native.Nat.{_≤_, _<_}
 use lib.ListN.{length}
-use Rattle.printing.proofs.sum.Statement.{statement}
-use Rattle.printing.proofs.sum.Tie as tie
+use Rattle.trace.proofs.print.sum.Statement.{statement}
+use Rattle.trace.proofs.print.sum.Tie as tie
 
 abbrev Inv-loop : tie.InvT-loop
 Inv-loop bytes count tail₀ total₀ q₀ tail total q = (q ≤ length bytes) × (tail < 65521) × (total < 65521)

@@ -3,8 +3,8 @@ use borrow.Author.Needs.{needs}
 use native.Mathlib.Omega.{arith}
 use Prim.Native.Nat.{_-_, _≤_}
 use lib.ListN.{length}
-use Rattle.printing.proofs.bytes_from.Statement.{statement}
-use Rattle.printing.proofs.bytes_from.Tie as tie
+use Rattle.trace.proofs.print.bytes_from.Statement.{statement}
+use Rattle.trace.proofs.print.bytes_from.Tie as tie
 
 abbrev Inv-loop : tie.InvT-loop
 Inv-loop bytes first count q₀ q = count ≤ length bytes
@@ -19,7 +19,7 @@ bytes-from-spec =
     Inv-loop
     μ-loop
     (λ c κs. search needs)
-    (λ c. omega (arith, c .but-one .ensures))
+    (λ c. omega (arith, c .end .ensures))
     (λ c. omega arith)
     (λ c κs. search needs)
     (λ c κs. search needs)
