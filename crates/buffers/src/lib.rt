@@ -1,7 +1,10 @@
-// The lent buffers: the length of each, and writing into them.
+// The lent buffers: the length of each, whether they have it, and writing into them.
+mod exact;
 mod lengths;
 mod slices;
 
+pub use exact::exactly;
+pub use exact::exactly_framed;
 pub use lengths::body_len;
 pub use lengths::frame_len;
 pub use lengths::message_len;

@@ -1,2 +1,2 @@
 -- The laws that the functions' proofs cite.
-pub mod Tables
+pub mod Parts

@@ -1,6 +1,8 @@
-// The search for the first cause that refuses a report. It writes nothing.
-mod frame_report;
-mod loss_report;
+// The search for the first cause that refuses a call, by the call's table. It writes nothing.
+mod opening;
+mod slots;
 
-pub use frame_report::frame_cause;
-pub use loss_report::loss_cause;
+pub use opening::open_cause;
+pub use slots::frame_cause;
+pub use slots::loss_cause;
+pub use slots::send_cause;

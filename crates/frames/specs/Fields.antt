@@ -1,13 +1,8 @@
--- What bytes say of themselves: settings and a slot, from a place on; and a frame by its header.
-use mathlib.Core.Bool.{not}
-use mathlib.Core.List.{List, [], _∷_}
+-- What bytes say of themselves: settings and a slot, from a place on; and a frame, by its header.
+use mathlib.Core.List.{List}
 use Prim.Native.Nat.{ℕ, _+_, _*_}
-use lib.ListN.{getD, drop}
+use lib.ListN.{getD}
 use Rattle.code.specs.declared.settings.Settings.{Settings}
-use Rattle.protocol.specs.declared.Cause.the-variants.{OtherMark, OtherSettings}
-use Rattle.protocol.specs.declared.Answer.{Answer}
-use Rattle.protocol.specs.Frame.{mark, five}
-use Rattle.protocol.specs.Causes.{Row, row, firstOf, agree}
 
 -- W, T, B, N and L, from the place `start`
 unfoldable pub settingsAt : ℕ → List ℕ → Settings
@@ -33,13 +28,3 @@ settingsIn frame = settingsAt 5 frame
 -- its slot: bytes 10 to 13
 abbrev pub slotIn : List ℕ → ℕ
 slotIn frame = slotAt 10 frame
-
--- for this version and these settings it meets 4 and 5
-abbrev pub headerTable : ℕ → Settings → List ℕ → List Row
-headerTable version s frame =
-    row (not (agree 5 frame (mark version))) OtherMark
-    ∷ row (not (agree 5 (drop 5 frame) (five s))) OtherSettings
-    ∷ []
-
-unfoldable pub headerCause : ℕ → Settings → List ℕ → Answer
-headerCause version s frame = firstOf (headerTable version s frame)

@@ -9,7 +9,8 @@ use protocol::Cause;
 ghost use mathlib.Core.Path.{_≡_};
 ghost use Prim.Native.Nat.{_+_, _*_, _≤_};
 ghost use lib.ListN.{length};
-ghost use Rattle.frames.specs.Fields.{settingsAt, slotAt, slotIn, headerCause};
+ghost use Rattle.protocol.specs.Causes.{headerCause};
+ghost use Rattle.frames.specs.Fields.{settingsAt, slotAt, slotIn};
 
 // W, T, B, N and L, from the place `start`.
 pub fn settings_at(bytes: &[u8], start: usize) -> Settings

@@ -1,6 +1,8 @@
-// The numbers of the static library's replies, and the state saved where a call was accepted.
+// The numbers of the static library's replies, the state saved where a call was accepted, and lengths for its settings.
+mod lengths;
 mod numbers;
 mod outcomes;
 
+pub use lengths::or_zero;
 pub use outcomes::save_answer;
 pub use outcomes::save_reply;

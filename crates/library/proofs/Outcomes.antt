@@ -3,7 +3,7 @@ use mathlib.Core.Path.{_≡_, refl}
 use mathlib.Core.Bool.{Bool, true, false, cond, not, _&&_}
 use mathlib.Core.List.{List, [], _∷_}
 use Prim.Native.Nat.{ℕ}
-use lib.Dec.{eqb, eqb→eq}
+use lib.Dec.{eqb}
 use lib.ListN.{length, drop}
 use Rattle.galois.proofs.Cases.{is-true}
 use Rattle.code.specs.declared.settings.Settings.{Settings}
@@ -13,10 +13,10 @@ use Rattle.protocol.specs.declared.Cause.the-variants.{BadSettings, BadLength}
 use Rattle.protocol.specs.Lengths.{senderLen, receiverLen}
 use Rattle.protocol.specs.declared.Answer.{Answer}
 use Rattle.protocol.specs.declared.Answer.the-variants as answer
-use Rattle.protocol.specs.Causes.{numberOf, row, firstOf, openTable, sendTable, lossTable, frameTable, openCause, sendCause, lossCause, frameCause, frameCauseOf}
+use Rattle.protocol.specs.Causes.{numberOf, row, firstOf, sendTable, lossTable, frameTable, openCause, sendCause, lossCause, frameCause, frameCauseOf}
 use Rattle.protocol.specs.Calls.{OpenedSender, OpenedReceiver, Sent, Reported, openSenderOf, sendOf, openReceiverOf, movedOn, heardOf, lossOf}
 use Rattle.protocol.specs.Histories.{accepts}
-use Rattle.protocol.proofs.CauseTables.{none-holds, followedBy, one-below, passes}
+use Rattle.protocol.proofs.CauseTables.{followedBy, one-below}
 use Rattle.protocol.proofs.ReportRows.{moved-accepts}
 use Rattle.frames.specs.Fields.{settingsAt}
 use Rattle.state.specs.State.{senderEnd, receiverEnd, senderBytes, receiverBytes, saved, stateLen, senderIn, receiverIn, stateTable, stateCause}
@@ -65,13 +65,6 @@ module _ (state rows message : List ℕ) where
   lost-cause = one-below (stateTable receiverEnd state) (lossTable (receiverIn state) rows message)
 
 -- ---- openings
-
--- where the settings and the state give no cause, the state has its length
-pub opened-length : (s : Settings) (state : List ℕ) → openCause s stateLen state ≡ answer.Accepted → length state ≡ stateLen
-unfolding openCause
-opened-length s state none =
-    eqb→eq (length state) stateLen
-    (passes (eqb (length state) stateLen) (none-holds (openTable s stateLen state) none BadLength))
 
 -- what protocol's opening of a sender leaves of the lent lists
 abbrev pub senderLeft : List ℕ → OpenedSender → Opening

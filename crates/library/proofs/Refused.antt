@@ -10,7 +10,7 @@ use Rattle.protocol.specs.declared.Answer.the-variants as answer
 use Rattle.protocol.specs.Lengths.{senderLen, receiverLen}
 use Rattle.protocol.specs.Causes.{numberOf, Row, firstOf, openCause, sendCause, lossCause, frameCause}
 use Rattle.protocol.specs.Calls.{openSenderOf, openReceiverOf, sendOf, heardOf, lossOf}
-use Rattle.protocol.proofs.CauseTables.{second-clear}
+use Rattle.protocol.proofs.CauseTables.{both-clear}
 use Rattle.protocol.proofs.NumberLaws.{accepted-number}
 use Rattle.protocol.proofs.Refusals.{Comes, number-first, number-refused, moved-number}
 use Rattle.state.specs.State.{senderEnd, receiverEnd, stateLen, senderIn, receiverIn, stateCause}
@@ -35,14 +35,14 @@ module _ (settings state rows : List ℕ) where
   sender-opens : (a : Answer) → openBytesCause s (senderLen s) state rows ≡ a → Opens state rows (openSenderBytes settings state rows) a
   unfolding openSenderBytes openSenderOf
   sender-opens answer.Accepted e =
-      let none = second-clear (openCause s stateLen state) (openCause s (senderLen s) rows) (sym (open-cause s (senderLen s) state rows) ∙ e) in
+      let none = both-clear (openCause s stateLen state) (openCause s (senderLen s) rows) (sym (open-cause s (senderLen s) state rows) ∙ e) .1 in
       rw (e, openSenderBytes, none, openSenderOf) accepted-number
   sender-opens (answer.Refused c) e = rw (e, openSenderBytes)
 
   receiver-opens : (a : Answer) → openBytesCause s (receiverLen s) state rows ≡ a → Opens state rows (openReceiverBytes settings state rows) a
   unfolding openReceiverBytes openReceiverOf
   receiver-opens answer.Accepted e =
-      let none = second-clear (openCause s stateLen state) (openCause s (receiverLen s) rows) (sym (open-cause s (receiverLen s) state rows) ∙ e) in
+      let none = both-clear (openCause s stateLen state) (openCause s (receiverLen s) rows) (sym (open-cause s (receiverLen s) state rows) ∙ e) .1 in
       rw (e, openReceiverBytes, none, openReceiverOf) accepted-number
   receiver-opens (answer.Refused c) e = rw (e, openReceiverBytes)
 
@@ -58,7 +58,7 @@ sends : (state rows message frame : List ℕ) (a : Answer) → sendBytesCause st
     → Comes (λ (r : Sending). r .reply) (unsent state rows frame) (sendBytes state rows message frame) a
 unfolding sendBytes sendOf
 sends state rows message frame answer.Accepted e =
-    let none = second-clear (stateCause senderEnd state) (sendCause (senderIn state) rows message frame) (sym (send-cause state rows message frame) ∙ e) in
+    let none = both-clear (stateCause senderEnd state) (sendCause (senderIn state) rows message frame) (sym (send-cause state rows message frame) ∙ e) .1 in
     rw (e, sendBytes, none, sendOf) accepted-number
 sends state rows message frame (answer.Refused c) e = rw (e, sendBytes)
 
@@ -78,7 +78,7 @@ hears : (state rows frame message : List ℕ) (a : Answer) → heardBytesCause s
     → Reports state rows message (heardBytes state rows frame message) a
 unfolding heardBytes heardOf
 hears state rows frame message answer.Accepted e =
-    let none = second-clear (stateCause receiverEnd state) (frameCause (receiverIn state) rows frame message) (sym (heard-cause state rows message frame) ∙ e) in
+    let none = both-clear (stateCause receiverEnd state) (frameCause (receiverIn state) rows frame message) (sym (heard-cause state rows message frame) ∙ e) .1 in
     rw (e, heardBytes, none, heardOf) (moved-number (receiverIn state) _ rows)
 hears state rows frame message (answer.Refused c) e = rw (e, heardBytes)
 
@@ -86,7 +86,7 @@ loses : (state rows message : List ℕ) (a : Answer) → lostBytesCause state ro
     → Reports state rows message (lostBytes state rows message) a
 unfolding lostBytes lossOf
 loses state rows message answer.Accepted e =
-    let none = second-clear (stateCause receiverEnd state) (lossCause (receiverIn state) rows message) (sym (lost-cause state rows message) ∙ e) in
+    let none = both-clear (stateCause receiverEnd state) (lossCause (receiverIn state) rows message) (sym (lost-cause state rows message) ∙ e) .1 in
     rw (e, lostBytes, none, lossOf) (moved-number (receiverIn state) _ rows)
 loses state rows message (answer.Refused c) e = rw (e, lostBytes)
 

@@ -1,19 +1,22 @@
--- What a table of causes says: where it finds none, none of its conditions holds; of two, one below the other; and the opening's table at
--- either end.
+-- What a table of causes says: where it finds none, none of its conditions holds; of two, one below the other; the opening's table at
+-- either end, and that of every call in a slot.
 use mathlib.Core.Path.{_≡_, refl}
-use mathlib.Core.Bool.{Bool, true, false, cond, not}
+use mathlib.Core.Bool.{Bool, true, false, cond, not, _&&_}
 use mathlib.Core.List.{List, [], _∷_, _++_}
-use Prim.Native.Nat.{ℕ}
+use Prim.Native.Nat.{ℕ, _≤_}
 use native.Mathlib.Omega.{arith}
-use lib.Dec.{T, eqb}
+use lib.Dec.{T, eqb, eqb→eq}
 use lib.ListN.{length}
-use borrow.Author.Tests.{eq-eqb}
+use borrow.Author.Tests.{eq-eqb, le-ltb, ltb-false}
+use Rattle.galois.proofs.Cases.{and-left, and-right}
 use Rattle.code.specs.declared.settings.Settings.{Settings}
 use Rattle.code.specs.Settings.{accepted}
 use Rattle.protocol.specs.declared.Cause.{Cause}
+use Rattle.protocol.specs.declared.Cause.the-variants.{BadSettings, BadLength, PastLastSlot}
 use Rattle.protocol.specs.declared.Answer.{Answer}
 use Rattle.protocol.specs.declared.Answer.the-variants as answer
-use Rattle.protocol.specs.Causes.{numberOf, check, Row, firstOf, openCause}
+use Rattle.protocol.specs.Lengths.{lastSlot, messageLen, frameLen, exactly, exactlyFramed}
+use Rattle.protocol.specs.Causes.{numberOf, check, Row, firstOf, openTable, slotTable, openCause, slotCause}
 
 -- where a table finds nothing, its first condition fails and the rest finds nothing
 pub check-clear : (b : Bool) (c : Cause) (rest : Answer) → check b c rest ≡ answer.Accepted → (b ≡ false) × (rest ≡ answer.Accepted)
@@ -51,10 +54,10 @@ one-below (r ∷ rs) ss = go (one-below rs ss) (r .holds)
     go rest true = refl
     go rest false = rest
 
--- where both together find no cause, the second finds none
-pub second-clear : (a b : Answer) → followedBy a b ≡ answer.Accepted → b ≡ answer.Accepted
-second-clear answer.Accepted b e = e
-second-clear (answer.Refused c) b e = cc
+-- where both together find no cause, neither does
+pub both-clear : (a b : Answer) → followedBy a b ≡ answer.Accepted → (a ≡ answer.Accepted) × (b ≡ answer.Accepted)
+both-clear answer.Accepted b e = (refl, e)
+both-clear (answer.Refused c) b e = let z : _≡_ {A = ℕ} 0 1 = cc in absurd (omega arith)
 
 -- a test passes exactly where its negation fails
 pub passes : (b : Bool) → not b ≡ false → T b
@@ -70,3 +73,56 @@ pub open-clear : (s : Settings) (size : ℕ) (rows : List ℕ) → T (accepted s
     → openCause s size rows ≡ answer.Accepted
 unfolding openCause
 open-clear s size rows ok full = rw (fails (accepted s) ok, eq-eqb (length rows) size full)
+
+-- and only such a one
+pub open-exact : (s : Settings) (size : ℕ) (rows : List ℕ) → openCause s size rows ≡ answer.Accepted → length rows ≡ size
+unfolding openCause
+open-exact s size rows e =
+    eqb→eq (length rows) size (passes (eqb (length rows) size) (none-holds (openTable s size rows) e BadLength))
+
+-- ---- a call in a slot
+
+-- it meets none of the causes 1, 2 and 3
+pub record InSlot (s : Settings) (exact : Bool) (due : ℕ) : Type 0 where
+  pub settings : T (accepted s)
+  pub lengths : T exact
+  pub in-time : due ≤ lastSlot
+
+module _ (s : Settings) (exact : Bool) (due : ℕ) where
+  pub slot-open : slotCause s exact due ≡ answer.Accepted → InSlot s exact due
+  unfolding slotCause
+  slot-open e =
+      let none = none-holds (slotTable s exact due) e in
+      record {
+        settings = passes (accepted s) (none BadSettings);
+        lengths = passes exact (none BadLength);
+        in-time = ltb-false lastSlot due (none PastLastSlot);
+      }
+
+  pub slot-clear : InSlot s exact due → slotCause s exact due ≡ answer.Accepted
+  unfolding slotCause
+  slot-clear h = rw (fails (accepted s) (h .settings), fails exact (h .lengths), le-ltb lastSlot due (h .in-time))
+
+-- ---- lengths
+
+module _ (s : Settings) (size rows message : ℕ) where
+  pub exact-lengths : T (exactly s size rows message) → (rows ≡ size) × (message ≡ messageLen s)
+  exact-lengths t =
+      let a : Bool = eqb rows size in
+      let b : Bool = eqb message (messageLen s) in
+      (eqb→eq rows size (and-left a b t), eqb→eq message (messageLen s) (and-right a b t))
+
+  pub lengths-exact : rows ≡ size → message ≡ messageLen s → T (exactly s size rows message)
+  lengths-exact full whole = rw (eq-eqb rows size full, eq-eqb message (messageLen s) whole) tt
+
+  module _ (frame : ℕ) where
+    pub framed-lengths : T (exactlyFramed s size rows message frame) → (rows ≡ size) × (message ≡ messageLen s) × (frame ≡ frameLen s)
+    framed-lengths t =
+        let a : Bool = exactly s size rows message in
+        let b : Bool = eqb frame (frameLen s) in
+        let front = exact-lengths (and-left a b t) in
+        (front .0, front .1, eqb→eq frame (frameLen s) (and-right a b t))
+
+    pub lengths-framed : rows ≡ size → message ≡ messageLen s → frame ≡ frameLen s → T (exactlyFramed s size rows message frame)
+    lengths-framed full whole framed =
+        rw (eq-eqb rows size full, eq-eqb message (messageLen s) whole, eq-eqb frame (frameLen s) framed) tt

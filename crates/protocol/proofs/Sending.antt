@@ -1,28 +1,25 @@
 -- A send: the conditions under which no cause holds, and what comes of it then and otherwise. The opening that comes before.
 use mathlib.Core.Path.{_≡_, refl, sym, ap, _∙_}
-use mathlib.Core.Bool.{Bool, _&&_}
+use mathlib.Core.Bool.{Bool}
 use mathlib.Core.Logic.{_↔_}
 use mathlib.Core.List.{List}
 use Prim.Native.Nat.{ℕ, _-_, _%_, _≤_}
 use native.Mathlib.Omega.{arith}
-use lib.Dec.{T, eqb, eqb→eq}
+use lib.Dec.{T}
 use lib.ListN.{length, replicate}
-use borrow.Author.Tests.{ltb-false, le-ltb, eq-eqb}
-use Rattle.galois.proofs.Cases.{and-left, and-right}
 use Rattle.code.specs.declared.settings.Settings.{Settings}
 use Rattle.code.specs.Settings.{accepted, nOf}
 use Rattle.protocol.specs.declared.Sender.{Sender}
 use Rattle.protocol.specs.declared.Cause.{Cause}
-use Rattle.protocol.specs.declared.Cause.the-variants.{BadSettings, BadLength, PastLastSlot}
 use Rattle.protocol.specs.declared.Answer.the-variants as answer
-use Rattle.protocol.specs.Lengths.{lastSlot, messageLen, frameLen, senderLen}
+use Rattle.protocol.specs.Lengths.{lastSlot, messageLen, frameLen, senderLen, exactlyFramed}
 use Rattle.protocol.specs.States.{openedSender, sentOn}
 use Rattle.protocol.specs.Frame.{frameOf}
 use Rattle.protocol.specs.Rows.{putRow}
 use Rattle.protocol.specs.declared.Answer.{Answer}
-use Rattle.protocol.specs.Causes.{sendTable, sendCause}
+use Rattle.protocol.specs.Causes.{slotCause, sendCause}
 use Rattle.protocol.specs.Calls.{Sent, openSenderOf, sendOf}
-use Rattle.protocol.proofs.CauseTables.{none-holds, passes, fails, open-clear}
+use Rattle.protocol.proofs.CauseTables.{open-clear, slot-open, slot-clear, framed-lengths, lengths-framed}
 
 -- ---- the opening
 
@@ -57,34 +54,33 @@ abbrev pub refusedSend : Cause → Sender → List ℕ → List ℕ → Sent
 refusedSend c x rows frame = record { answer = answer.Refused c; sender = x; rows = rows; frame = frame }
 
 module _ (x : Sender) (rows message frame : List ℕ) where
+  abbrev framed : Bool
+  framed = exactlyFramed (x .settings) (senderLen (x .settings)) (length rows) (length message) (length frame)
+
   -- the table finds nothing where the conditions hold
   pub send-clear : Sendable x rows message frame → sendCause x rows message frame ≡ answer.Accepted
-  unfolding sendCause
+  unfolding sendCause slotCause
   send-clear h =
-      rw (
-        fails (accepted (x .settings)) (h .settled),
-        eq-eqb (length rows) (senderLen (x .settings)) (h .rows-exact),
-        eq-eqb (length message) (messageLen (x .settings)) (h .message-exact),
-        eq-eqb (length frame) (frameLen (x .settings)) (h .frame-exact),
-        le-ltb lastSlot (x .due) (h .in-time),
-      )
+      slot-clear (x .settings) framed (x .due)
+      (record {
+        settings = h .settled;
+        lengths = lengths-framed (x .settings) (senderLen (x .settings)) (length rows) (length message) (length frame)
+            (h .rows-exact) (h .message-exact) (h .frame-exact);
+        in-time = h .in-time;
+      })
 
   -- and only there
   pub clear-send : sendCause x rows message frame ≡ answer.Accepted → Sendable x rows message frame
-  unfolding sendCause
+  unfolding sendCause slotCause
   clear-send e =
-      let s = x .settings in
-      let a : Bool = eqb (length rows) (senderLen s) in
-      let b : Bool = eqb (length message) (messageLen s) in
-      let c : Bool = eqb (length frame) (frameLen s) in
-      let none = none-holds (sendTable x rows message frame) e in
-      let lengths : T (a && b && c) = passes (a && b && c) (none BadLength) in
+      let free = slot-open (x .settings) framed (x .due) e in
+      let lengths = framed-lengths (x .settings) (senderLen (x .settings)) (length rows) (length message) (length frame) (free .lengths) in
       record {
-        settled = passes (accepted s) (none BadSettings);
-        rows-exact = eqb→eq (length rows) (senderLen s) (and-left a b (and-left (a && b) c lengths));
-        message-exact = eqb→eq (length message) (messageLen s) (and-right a b (and-left (a && b) c lengths));
-        frame-exact = eqb→eq (length frame) (frameLen s) (and-right (a && b) c lengths);
-        in-time = ltb-false lastSlot (x .due) (none PastLastSlot);
+        settled = free .settings;
+        rows-exact = lengths .0;
+        message-exact = lengths .1;
+        frame-exact = lengths .2;
+        in-time = free .in-time;
       }
 
 -- a send is accepted, or refused with a cause

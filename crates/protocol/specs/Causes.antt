@@ -1,6 +1,6 @@
 -- Document 01, "Why a call says no": the causes, their numbers, the table of each call in the order of checking, and the first that holds.
-use mathlib.Core.Bool.{Bool, true, false, not, _&&_}
-use mathlib.Core.List.{List, [], _∷_}
+use mathlib.Core.Bool.{Bool, true, false, not}
+use mathlib.Core.List.{List, [], _∷_, _++_}
 use Prim.Native.Nat.{ℕ}
 use lib.Dec.{eqb, ltb}
 use lib.ListN.{getD, length, drop}
@@ -13,7 +13,7 @@ use Rattle.protocol.specs.declared.Cause.{Cause}
 use Rattle.protocol.specs.declared.Cause.the-variants.{BadSettings, BadLength, PastLastSlot, OtherMark, OtherSettings, OtherSlot}
 use Rattle.protocol.specs.declared.Answer.{Answer}
 use Rattle.protocol.specs.declared.Answer.the-variants as answer
-use Rattle.protocol.specs.Lengths.{lastSlot, messageLen, frameLen, senderLen, receiverLen}
+use Rattle.protocol.specs.Lengths.{lastSlot, senderLen, receiverLen, exactly, exactlyFramed}
 use Rattle.protocol.specs.Frame.{mark, five, slotBytes}
 
 -- document 01's number for each cause
@@ -51,35 +51,38 @@ agree m a b = every m (λ i. eqb (getD a i 0) (getD b i 0))
 abbrev pub openTable : Settings → ℕ → List ℕ → List Row
 openTable s size rows = row (not (accepted s)) BadSettings ∷ row (not (eqb (length rows) size)) BadLength ∷ []
 
--- a send meets 1, 2 and 3
+-- every call in a slot meets 1, 2 and 3; exact says that what is lent has its lengths
+abbrev pub slotTable : Settings → Bool → ℕ → List Row
+slotTable s exact due =
+    row (not (accepted s)) BadSettings
+    ∷ row (not exact) BadLength
+    ∷ row (ltb lastSlot due) PastLastSlot
+    ∷ []
+
+-- a send meets no others
 abbrev pub sendTable : Sender → List ℕ → List ℕ → List ℕ → List Row
 sendTable x rows message frame =
     let s = x .settings in
-    row (not (accepted s)) BadSettings
-    ∷ row (not (eqb (length rows) (senderLen s) && eqb (length message) (messageLen s) && eqb (length frame) (frameLen s))) BadLength
-    ∷ row (ltb lastSlot (x .due)) PastLastSlot
-    ∷ []
+    slotTable s (exactlyFramed s (senderLen s) (length rows) (length message) (length frame)) (x .due)
 
--- a loss report meets 1, 2 and 3
+-- nor does a loss report
 abbrev pub lossTable : Receiver → List ℕ → List ℕ → List Row
-lossTable x rows message =
-    let s = x .settings in
-    row (not (accepted s)) BadSettings
-    ∷ row (not (eqb (length rows) (receiverLen s) && eqb (length message) (messageLen s))) BadLength
-    ∷ row (ltb lastSlot (x .due)) PastLastSlot
+lossTable x rows message = let s = x .settings in slotTable s (exactly s (receiverLen s) (length rows) (length message)) (x .due)
+
+-- a frame meets 4 and 5, for this version and these settings
+abbrev pub headerTable : ℕ → Settings → List ℕ → List Row
+headerTable version s frame =
+    row (not (agree 5 frame (mark version))) OtherMark
+    ∷ row (not (agree 5 (drop 5 frame) (five s))) OtherSettings
     ∷ []
 
--- the report of a frame of this version meets all of them
+-- the report of a frame of this version meets all of them, with 6 as the last
 abbrev pub frameTableOf : ℕ → Receiver → List ℕ → List ℕ → List ℕ → List Row
 frameTableOf version x rows frame message =
     let s = x .settings in
-    row (not (accepted s)) BadSettings
-    ∷ row (not (eqb (length rows) (receiverLen s) && eqb (length frame) (frameLen s) && eqb (length message) (messageLen s))) BadLength
-    ∷ row (ltb lastSlot (x .due)) PastLastSlot
-    ∷ row (not (agree 5 frame (mark version))) OtherMark
-    ∷ row (not (agree 5 (drop 5 frame) (five s))) OtherSettings
-    ∷ row (not (agree 4 (drop 10 frame) (slotBytes (x .due)))) OtherSlot
-    ∷ []
+    slotTable s (exactlyFramed s (receiverLen s) (length rows) (length message) (length frame)) (x .due)
+    ++ headerTable version s frame
+    ++ (row (not (agree 4 (drop 10 frame) (slotBytes (x .due)))) OtherSlot ∷ [])
 
 -- frames are of version 1
 abbrev pub frameTable : Receiver → List ℕ → List ℕ → List ℕ → List Row
@@ -89,11 +92,17 @@ frameTable = frameTableOf 1
 unfoldable pub openCause : Settings → ℕ → List ℕ → Answer
 openCause s size rows = firstOf (openTable s size rows)
 
+unfoldable pub slotCause : Settings → Bool → ℕ → Answer
+slotCause s exact due = firstOf (slotTable s exact due)
+
 unfoldable pub sendCause : Sender → List ℕ → List ℕ → List ℕ → Answer
 sendCause x rows message frame = firstOf (sendTable x rows message frame)
 
 unfoldable pub lossCause : Receiver → List ℕ → List ℕ → Answer
 lossCause x rows message = firstOf (lossTable x rows message)
+
+unfoldable pub headerCause : ℕ → Settings → List ℕ → Answer
+headerCause version s frame = firstOf (headerTable version s frame)
 
 unfoldable pub frameCauseOf : ℕ → Receiver → List ℕ → List ℕ → List ℕ → Answer
 frameCauseOf version x rows frame message = firstOf (frameTableOf version x rows frame message)

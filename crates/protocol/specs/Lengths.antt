@@ -1,5 +1,8 @@
--- Document 01, "Slots, messages, frames" and "What is remembered": the last slot, and the length of each lent buffer.
+-- Document 01, "Slots, messages, frames" and "What is remembered": the last slot, the length of each lent buffer, and whether what is
+-- lent has it.
+use mathlib.Core.Bool.{Bool, _&&_}
 use Prim.Native.Nat.{ℕ, _+_, _-_, _*_}
+use lib.Dec.{eqb}
 use Rattle.code.specs.declared.settings.Settings.{Settings}
 use Rattle.code.specs.Settings.{delayOf, kOf, nOf}
 
@@ -31,3 +34,11 @@ rowCount s = kOf s + delayOf s
 
 unfoldable pub receiverLen : Settings → ℕ
 receiverLen s = rowCount s * rowLen s
+
+-- rows of this size and a message buffer have their lengths
+abbrev pub exactly : Settings → ℕ → ℕ → ℕ → Bool
+exactly s size rows message = eqb rows size && eqb message (messageLen s)
+
+-- and so has a frame
+abbrev pub exactlyFramed : Settings → ℕ → ℕ → ℕ → ℕ → Bool
+exactlyFramed s size rows message frame = exactly s size rows message && eqb frame (frameLen s)

@@ -1,35 +1,28 @@
--- What a refused opening gives back.
+-- What each way out of an opening gives back.
 use mathlib.Core.Path.{_≡_}
-use mathlib.Core.Bool.{false}
-use mathlib.Core.Logic.{_≢_}
 use mathlib.Core.List.{List}
 use Prim.Native.Nat.{ℕ}
-use lib.Dec.{T}
-use lib.ListN.{length}
-use borrow.Author.Tests.{ne-eqb}
 use Rattle.code.specs.declared.settings.Settings.{Settings}
-use Rattle.code.specs.Settings.{accepted}
+use Rattle.protocol.specs.declared.Receiver.{Receiver}
 use Rattle.protocol.specs.declared.Cause.{Cause}
-use Rattle.protocol.specs.declared.Cause.the-variants.{BadSettings, BadLength}
 use Rattle.protocol.specs.declared.Answer.the-variants as answer
-use Rattle.protocol.specs.Lengths.{receiverLen}
-use Rattle.protocol.specs.States.{noReceiver}
+use Rattle.protocol.specs.Lengths.{rowCount, receiverLen}
+use Rattle.protocol.specs.Rows.{joined}
+use Rattle.protocol.specs.States.{noReceiver, openedReceiver}
 use Rattle.protocol.specs.Causes.{openCause}
-use Rattle.protocol.specs.Calls.{OpenedReceiver, openReceiverOf}
-use Rattle.protocol.proofs.CauseTables.{fails}
+use Rattle.protocol.specs.Calls.{receivedZeros, OpenedReceiver, openReceiverOf}
 
-abbrev pub unopened : Cause → List ℕ → OpenedReceiver
-unopened c rows = record { answer = answer.Refused c; receiver = noReceiver; rows = rows }
+-- what an accepted opening hands back, by its rows and state
+abbrev pub opening : List ℕ → Receiver → OpenedReceiver
+opening rows x = record { answer = answer.Accepted; receiver = x; rows = rows }
 
 module _ (s : Settings) (rows : List ℕ) where
-  found-opening : (c : Cause) → openCause s (receiverLen s) rows ≡ answer.Refused c → unopened c rows ≡ openReceiverOf s rows
+  pub unopened : (c : Cause) → openCause s (receiverLen s) rows ≡ answer.Refused c
+      → record { answer = answer.Refused c; receiver = noReceiver; rows = rows } ≡ openReceiverOf s rows
   unfolding openReceiverOf
-  found-opening c e = rw (e, openReceiverOf)
+  unopened c e = rw (e, openReceiverOf)
 
-  pub open-settings : accepted s ≡ false → unopened BadSettings rows ≡ openReceiverOf s rows
-  unfolding openCause
-  open-settings e = found-opening BadSettings (rw e)
-
-  pub open-length : T (accepted s) → length rows ≢ receiverLen s → unopened BadLength rows ≡ openReceiverOf s rows
-  unfolding openCause
-  open-length ok ne = found-opening BadLength (rw (fails (accepted s) ok, ne-eqb (length rows) (receiverLen s) ne))
+  pub opened : openCause s (receiverLen s) rows ≡ answer.Accepted
+      → opening (joined (rowCount s) (λ r. receivedZeros s)) (openedReceiver s) ≡ openReceiverOf s rows
+  unfolding openReceiverOf
+  opened e = rw (e, openReceiverOf)

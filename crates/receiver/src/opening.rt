@@ -1,9 +1,9 @@
 // The receiver's opening.
 use buffers::receiver_len;
 use buffers::row_len;
+use causes::open_cause;
 use code::Settings;
 use protocol::Answer;
-use protocol::Cause;
 use protocol::Receiver;
 use ring::receive_zeros;
 ghost use mathlib.Core.Path.{_≡_};
@@ -22,17 +22,11 @@ pub fn open(s: Settings, rows: &mut [u8]) -> Opened
         ≡ openReceiverOf s (now (rows .entry))
         ⌝ }
 {
-    let none = Receiver::NONE;
-    if !s.accepted() {
+    let found = open_cause(s, receiver_len(s), rows);
+    if let Answer::Refused(c) = found {
         return Opened {
-            answer: Answer::Refused(Cause::BadSettings),
-            receiver: none,
-        };
-    }
-    if rows.len() != receiver_len(s) {
-        return Opened {
-            answer: Answer::Refused(Cause::BadLength),
-            receiver: none,
+            answer: Answer::Refused(c),
+            receiver: Receiver::NONE,
         };
     }
     receive_zeros(rows, row_len(s));

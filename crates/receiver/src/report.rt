@@ -20,7 +20,7 @@ pub struct Reported {
 
 // A refused report leaves the state as it was.
 pub(crate) fn refused(c: Cause, x: Receiver) -> Reported
-    ensures { λ r. ⌜ (r .reply ≡ reply.Refused c) × (r .receiver ≡ x) ⌝ }
+    ensures { λ r. ⌜ r ≡ record { reply = reply.Refused c; receiver = x } ⌝ }
 {
     Reported {
         reply: Reply::Refused(c),

@@ -1,14 +1,14 @@
 // The sender's two calls. Each takes any input at all, and a refused call changes nothing.
-use crate::lengths::exact;
 use buffers::clear;
 use buffers::sender_len;
+use causes::open_cause;
+use causes::send_cause;
 use code::Settings;
 use framing::remember;
 use framing::write_frame;
 use protocol::Answer;
 use protocol::Cause;
 use protocol::Sender;
-use protocol::Slot;
 ghost use mathlib.Core.Path.{_≡_};
 ghost use Rattle.protocol.specs.Calls.{openSenderOf, sendOf};
 ghost use Rattle.protocol.specs.declared.Answer.the-variants.{Refused};
@@ -29,17 +29,11 @@ pub struct Sent {
 pub fn open(s: Settings, rows: &mut [u8]) -> Opened
     ensures { λ r. ⌜ record { answer = r .answer; sender = r .sender; rows = now (rows .exit) } ≡ openSenderOf s (now (rows .entry)) ⌝ }
 {
-    let none = Sender::NONE;
-    if !s.accepted() {
+    let found = open_cause(s, sender_len(s), rows);
+    if let Answer::Refused(c) = found {
         return Opened {
-            answer: Answer::Refused(Cause::BadSettings),
-            sender: none,
-        };
-    }
-    if rows.len() != sender_len(s) {
-        return Opened {
-            answer: Answer::Refused(Cause::BadLength),
-            sender: none,
+            answer: Answer::Refused(c),
+            sender: Sender::NONE,
         };
     }
     clear(rows);
@@ -51,7 +45,7 @@ pub fn open(s: Settings, rows: &mut [u8]) -> Opened
 
 // A refused send leaves the state as it was.
 fn refused(c: Cause, x: Sender) -> Sent
-    ensures { λ r. ⌜ (r .answer ≡ Refused c) × (r .sender ≡ x) ⌝ }
+    ensures { λ r. ⌜ r ≡ record { answer = Refused c; sender = x } ⌝ }
 {
     Sent {
         answer: Answer::Refused(c),
@@ -66,16 +60,11 @@ pub fn send(x: Sender, rows: &mut [u8], message: &[u8], frame: &mut [u8]) -> Sen
         ≡ sendOf x (now (rows .entry)) (now (message .entry)) (now (frame .entry))
         ⌝ }
 {
+    let found = send_cause(x, rows, message, frame);
+    if let Answer::Refused(c) = found {
+        return refused(c, x);
+    }
     let s = x.settings;
-    if !s.accepted() {
-        return refused(Cause::BadSettings, x);
-    }
-    if !exact(s, rows.len(), message.len(), frame.len()) {
-        return refused(Cause::BadLength, x);
-    }
-    if Slot::LAST.0 < x.due {
-        return refused(Cause::PastLastSlot, x);
-    }
     write_frame(frame, rows, message, 1, s, x.due);
     remember(rows, message, s, x.due);
     let next = x.next();

@@ -1,6 +1,5 @@
 // The sender: its opening, and a send, which turns a message into the frame of the slot due.
 mod calls;
-mod lengths;
 
 pub use calls::Opened;
 pub use calls::Sent;

@@ -12,20 +12,15 @@ use Rattle.protocol.specs.declared.Answer.the-variants.{Accepted, Refused}
 use Rattle.protocol.specs.declared.Cause.{Cause}
 use Rattle.protocol.specs.declared.Cause.the-variants.{OtherSlot}
 use Rattle.protocol.specs.States.{reportedOn}
-use Rattle.protocol.specs.Causes.{firstOf}
-use Rattle.protocol.proofs.CauseTables.{check-clear, followedBy, one-below}
-use Rattle.frames.specs.Fields.{slotIn, headerTable, headerCause}
+use Rattle.protocol.specs.Causes.{firstOf, headerTable, headerCause}
+use Rattle.protocol.proofs.CauseTables.{check-clear, followedBy, one-below, both-clear}
+use Rattle.frames.specs.Fields.{slotIn}
 use Rattle.stops.specs.Stops.{gapTable, frameStop}
 
 -- neither of two tests holds
 neither : (a b : Bool) → (a || b) ≡ false → (a ≡ false) × (b ≡ false)
 neither true b e = let z : _≡_ {A = ℕ} 0 1 = cc in absurd (omega arith)
 neither false b e = (refl, e)
-
--- nor has either of two answers a cause
-both-clear : (a b : Answer) → followedBy a b ≡ Accepted → (a ≡ Accepted) × (b ≡ Accepted)
-both-clear Accepted b e = (refl, e)
-both-clear (Refused c) b e = let z : _≡_ {A = ℕ} 0 1 = cc in absurd (omega arith)
 
 module _ (x : Receiver) (frame : List ℕ) where
   -- the header's causes come first

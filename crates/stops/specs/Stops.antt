@@ -10,8 +10,8 @@ use Rattle.protocol.specs.declared.Cause.the-variants.{BadSettings, BadLength, 
 use Rattle.protocol.specs.declared.Answer.{Answer}
 use Rattle.protocol.specs.declared.Answer.the-variants.{Accepted, Refused}
 use Rattle.protocol.specs.Lengths.{frameLen}
-use Rattle.protocol.specs.Causes.{Row, row, firstOf}
-use Rattle.frames.specs.Fields.{settingsIn, slotIn, headerTable}
+use Rattle.protocol.specs.Causes.{Row, row, firstOf, headerTable}
+use Rattle.frames.specs.Fields.{settingsIn, slotIn}
 use Rattle.stops.specs.declared.Start.{Start}
 use Rattle.stops.specs.declared.Start.the-variants.{Empty, Stop, Play}
 

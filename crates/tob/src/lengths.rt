@@ -3,12 +3,10 @@ use buffers::frame_len;
 use buffers::message_len;
 use buffers::receiver_len;
 use buffers::sender_len;
-use code::Settings;
 use frames::settings_at;
+use layout::or_zero;
 use state::STATE_LEN;
-ghost use mathlib.Core.Bool.{cond};
 ghost use mathlib.Core.Path.{_≡_};
-ghost use Rattle.code.specs.Settings.{accepted};
 ghost use Rattle.protocol.specs.Lengths.{messageLen, frameLen, senderLen, receiverLen};
 ghost use Rattle.state.specs.State.{stateLen};
 ghost use Rattle.library.specs.Calls.{lengthFor};
@@ -19,16 +17,6 @@ pub extern "C" fn tob_state_len() -> usize
     ensures { λ r. ⌜ r ≡ stateLen ⌝ }
 {
     STATE_LEN
-}
-
-// A length, where the settings are accepted.
-fn or_zero(s: Settings, len: usize) -> usize
-    ensures { λ r. ⌜ r ≡ cond (accepted s) len 0 ⌝ }
-{
-    if !s.accepted() {
-        return 0;
-    }
-    len
 }
 
 // A message.

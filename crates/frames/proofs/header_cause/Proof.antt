@@ -5,9 +5,8 @@ use mathlib.Core.Path.{_≡_, sym, _∙_}
 use mathlib.Core.Bool.{true}
 use denote.Ref.{now}
 use Rattle.protocol.specs.Frame.{mark}
-use Rattle.protocol.specs.Causes.{agree}
+use Rattle.protocol.specs.Causes.{agree, headerCause}
 use Rattle.protocol.proofs.HeaderTests.{mark-test, five-test}
-use Rattle.frames.specs.Fields.{headerCause}
 use Rattle.frames.proofs.header_cause.Statement.{statement}
 use Rattle.frames.proofs.header_cause.Tie as tie
 

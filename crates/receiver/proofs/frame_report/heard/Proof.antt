@@ -24,15 +24,12 @@ start c = c .before .before .before .before .before .before
 
 -- ---- a refusal
 
-abbrev outcome : List ℕ → List ℕ → Reply → Receiver → Reported
-outcome rows message r x = record { reply = r; receiver = x; rows = rows; message = message }
-
 returns : tie.Need-returns
 returns c =
     let at-found = c .before .before in
     let at = at-found .before .before in
     let a = start at .args in
-    ap₂ (outcome (now (a .rows)) (now (a .message))) (c .refused .ensures .0) (c .refused .ensures .1)
+    ap (λ r. record { reply = r .reply; receiver = r .receiver; rows = now (a .rows); message = now (a .message) }) (c .refused .ensures)
     ∙ sym (heard-stays (a .x) (now (a .rows)) (now (a .frame)) (now (a .message)) _
     (sym (at .frame-cause .ensures) ∙ at-found .found .given .1))
 

@@ -1,59 +1,60 @@
--- Each way out is one case of the opening.
+-- A cause that is found refuses the opening, and else the rows are zeroed.
 use borrow.Author.Needs.{needs}
-use borrow.Author.Tests.{not-true, not-false}
-use mathlib.Core.Path.{_≡_, sym, ap, ap₂, _∙_, subst⁻¹}
-use mathlib.Core.List.{List}
+use mathlib.Core.Path.{_≡_, sym, ap, ap₂, _∙_}
 use Prim.Native.Nat.{ℕ}
 use denote.Ref.{now}
-use lib.Dec.{T}
-use lib.ListN.{length, replicate}
-use Rattle.code.specs.Settings.{accepted}
-use Rattle.protocol.specs.declared.Sender.{Sender}
+use lib.ListN.{replicate}
 use Rattle.protocol.specs.declared.Answer.the-variants as answer
-use Rattle.protocol.specs.Calls.{OpenedSender}
+use Rattle.protocol.specs.Causes.{openCause}
 use Rattle.protocol.specs.Lengths.{senderLen}
-use Rattle.protocol.proofs.Sending.{opened-sender}
-use Rattle.sender.proofs.Outcomes.{opening-settings, opening-length}
+use Rattle.protocol.proofs.CauseTables.{open-exact}
+use Rattle.sender.proofs.Outcomes.{opening, unopened, opened}
 use Rattle.sender.proofs.calls.open.Statement.{statement}
 use Rattle.sender.proofs.calls.open.Tie as tie
 
-passed : (c : tie.Else1) → T (accepted (c .before .before .before .args .s))
-passed c = subst⁻¹ T (sym (c .before .accepted .ensures) ∙ not-false (c .before .accepted .result) (c .if1 .left)) tt
+abbrev start : tie.After-open-cause → tie.Start
+start c = c .before .before .before .before
+
+-- the cause that was looked for
+looked : (c : tie.After-open-cause)
+    → let a = start c .args in c .open-cause .result ≡ openCause (a .s) (senderLen (a .s)) (now (a .rows))
+looked c =
+    let a = start c .args in
+    c .open-cause .ensures ∙ ap (λ (n : ℕ). openCause (a .s) n (now (a .rows))) (c .before .before .sender-len .ensures)
 
 returns : tie.Need-returns
 returns c =
-    let at = c .before in
-    let a = at .before .before .args in
-    opening-settings (a .s) (now (a .rows)) (sym (at .accepted .ensures) ∙ not-true (at .accepted .result) (c .if1 .taken))
+    let at = c .before .before .before in
+    let a = start at .args in
+    unopened (a .s) (now (a .rows)) _ (sym (looked at) ∙ c .before .found .given .1)
+
+abbrev begun : tie.After-enum-told → tie.Start
+begun c = start (c .before .before)
+
+uncaused : (c : tie.After-enum-told) → let a = begun c .args in openCause (a .s) (senderLen (a .s)) (now (a .rows)) ≡ answer.Accepted
+uncaused c = sym (looked (c .before .before)) ∙ c .enum-told .given .1
 
 returns-2 : tie.Need-returns-2
 returns-2 c =
-    let at = c .before in
-    let a = at .before .before .before .before .args in
-    opening-length (a .s) (now (a .rows)) (passed (at .before)) (λ same. c .if2 .taken (same ∙ sym (at .sender-len .ensures)))
-
--- an accepted opening, by its state and rows
-abbrev accepted-opening : Sender → List ℕ → OpenedSender
-accepted-opening x rows = record { answer = answer.Accepted; sender = x; rows = rows }
-
-returns-3 : tie.Need-returns-3
-returns-3 c =
-    let at-clear = c .before .before .before in
-    let at = at-clear .before .before .before in
-    let a = at .before .before .before .before .args in
-    let full : length (now (a .rows)) ≡ senderLen (a .s) = at-clear .before .before .if2 .left ∙ at .sender-len .ensures in
-    ap₂ accepted-opening (c .opened .ensures) (at-clear .clear .ensures ∙ ap (λ (n : ℕ). replicate n 0) full)
-    ∙ sym (opened-sender (a .s) (now (a .rows)) (passed (at .before)) full)
+    let at = c .before .before .before in
+    let one = at .before .before in
+    let a = begun one .args in
+    ap₂ opening
+    (at .clear .ensures ∙ ap (λ (n : ℕ). replicate n 0) (open-exact (a .s) (senderLen (a .s)) (now (a .rows)) (uncaused one)))
+    (c .opened .ensures)
+    ∙ opened (a .s) (now (a .rows)) (uncaused one)
 
 pub open-spec : {M : Type 1} → statement M
 open-spec =
     tie.close
     (tie.spec
-    (λ c κs. tt)
-    returns
-    (λ c κs. tt)
-    returns-2
-    (λ c κs. tt)
-    (λ c κs. tt)
+    (λ c κs. search needs)
+    (λ c κs. search needs)
     (λ c. search needs)
-    returns-3)
+    (λ c. search needs)
+    returns
+    (λ c. search needs)
+    (λ c κs. search needs)
+    (λ c κs. search needs)
+    (λ c. search needs)
+    returns-2)

@@ -1,126 +1,91 @@
--- Each way out is one case of the send.
+-- A cause that is found refuses the send; else the frame is written from the rows as they are, and then the message into them.
 use borrow.Author.Needs.{needs}
-use borrow.Author.Tests.{not-true, not-false}
-use mathlib.Core.Path.{_≡_, sym, ap₂, _∙_, subst⁻¹}
-use mathlib.Core.Bool.{true}
+use mathlib.Core.Path.{_≡_, refl, sym, ap, _∙_}
 use mathlib.Core.List.{List}
 use Prim.Native.Nat.{ℕ}
 use denote.Ref.{now}
-use lib.Dec.{T}
-use Rattle.code.specs.Settings.{accepted}
 use Rattle.protocol.specs.declared.Sender.{Sender}
-use Rattle.protocol.specs.declared.Answer.{Answer}
 use Rattle.protocol.specs.declared.Answer.the-variants as answer
 use Rattle.protocol.specs.Calls.{Sent}
 use Rattle.protocol.specs.Causes.{sendCause}
-use Rattle.protocol.specs.Lengths.{lastSlot}
 use Rattle.protocol.proofs.Sending.{Sendable, clear-send}
-use Rattle.sender.proofs.Outcomes.{lengths, send-settings, send-lengths, send-late, send-none, send-taken}
+use Rattle.sender.proofs.Outcomes.{unsent, sent}
 use Rattle.sender.proofs.calls.send.Statement.{statement}
 use Rattle.sender.proofs.calls.send.Tie as tie
 
--- ---- what the tests that were passed say
-
-abbrev start : tie.Else1 → tie.Start
+abbrev start : tie.After-send-cause → tie.Start
 start c = c .before .before .before .before .before .before
 
-passed : (c : tie.Else1) → T (accepted (start c .args .x .settings))
-passed c = subst⁻¹ T (sym (c .before .accepted .ensures) ∙ not-false (c .before .accepted .result) (c .if1 .left)) tt
-
-exact : (c : tie.Else2)
-    → let a = start (c .before .before) .args in
-    lengths (a .x) (now (a .rows)) (now (a .message)) (now (a .frame)) ≡ true
-exact c = sym (c .before .exact .ensures) ∙ not-false (c .before .exact .result) (c .if2 .left)
-
--- ---- the refusals
-
-abbrev outcome : List ℕ → List ℕ → Answer → Sender → Sent
-outcome rows frame a x = record { answer = a; sender = x; rows = rows; frame = frame }
+-- ---- a refusal
 
 returns : tie.Need-returns
 returns c =
-    let at = c .before .before in
-    let a = at .before .before .before .before .before .args in
-    ap₂ (outcome (now (a .rows)) (now (a .frame))) (c .refused .ensures .0) (c .refused .ensures .1)
-    ∙ send-settings (a .x) (now (a .rows)) (now (a .message)) (now (a .frame))
-    (sym (at .accepted .ensures) ∙ not-true (at .accepted .result) (c .before .if1 .taken))
+    let at-found = c .before .before in
+    let at = at-found .before .before in
+    let a = start at .args in
+    ap (λ r. record { answer = r .answer; sender = r .sender; rows = now (a .rows); frame = now (a .frame) }) (c .refused .ensures)
+    ∙ unsent (a .x) (now (a .rows)) (now (a .message)) (now (a .frame)) _ (sym (at .send-cause .ensures) ∙ at-found .found .given .1)
 
-returns-2 : tie.Need-returns-2
-returns-2 c =
-    let at = c .before .before in
-    let a = start (at .before) .args in
-    ap₂ (outcome (now (a .rows)) (now (a .frame))) (c .refused2 .ensures .0) (c .refused2 .ensures .1)
-    ∙ send-lengths (a .x) (now (a .rows)) (now (a .message)) (now (a .frame)) (passed (at .before))
-    (sym (at .exact .ensures) ∙ not-true (at .exact .result) (c .before .if2 .taken))
+-- ---- an accepted send
 
-returns-3 : tie.Need-returns-3
-unfolding lastSlot
-returns-3 c =
-    let two = c .before .before .before .before in
-    let one = two .before .before in
-    let a = start one .args in
-    ap₂ (outcome (now (a .rows)) (now (a .frame))) (c .refused3 .ensures .0) (c .refused3 .ensures .1)
-    ∙ send-late (a .x) (now (a .rows)) (now (a .message)) (now (a .frame)) (passed one) (exact two) (c .before .if3 .taken)
+abbrev begun : tie.After-enum-told → tie.Start
+begun c = start (c .before .before)
 
--- ---- the send itself
+uncaused : (c : tie.After-enum-told)
+    → let a = begun c .args in sendCause (a .x) (now (a .rows)) (now (a .message)) (now (a .frame)) ≡ answer.Accepted
+uncaused c = sym (c .before .before .send-cause .ensures) ∙ c .enum-told .given .1
 
-none : (c : tie.Else3)
-    → let a = start (c .before .before .before .before .before) .args in
-    sendCause (a .x) (now (a .rows)) (now (a .message)) (now (a .frame)) ≡ answer.Accepted
-unfolding lastSlot
-none c =
-    let two = c .before .before .before in
-    let a = start (two .before .before) .args in
-    send-none (a .x) (now (a .rows)) (now (a .message)) (now (a .frame)) (passed (two .before .before)) (exact two) (c .if3 .left)
+sendable : (c : tie.After-enum-told) → let a = begun c .args in Sendable (a .x) (now (a .rows)) (now (a .message)) (now (a .frame))
+sendable c = let a = begun c .args in clear-send (a .x) (now (a .rows)) (now (a .message)) (now (a .frame)) (uncaused c)
 
-sendable : (c : tie.Else3)
-    → let a = start (c .before .before .before .before .before) .args in
-    Sendable (a .x) (now (a .rows)) (now (a .message)) (now (a .frame))
-sendable c =
-    let a = start (c .before .before .before .before .before) .args in
-    clear-send (a .x) (now (a .rows)) (now (a .message)) (now (a .frame)) (none c)
+-- the place after the test, from where the frame is written
+abbrev free : tie.After-write-frame → tie.After-enum-told
+free c = c .before .before .before .before
 
 write-frame-requires : tie.Need-write-frame-requires
 write-frame-requires c κs =
-    let can = sendable (c .before .before) in
+    let can = sendable (c .before .before .before) in
     (can .settled, can .rows-exact, can .message-exact, can .frame-exact)
+
+-- the frame's place, from where the message is written
+abbrev framed : tie.After-remember-arg → tie.After-write-frame
+framed c = c .before .before .before
 
 remember-requires : tie.Need-remember-requires
 remember-requires c κs =
-    let can = sendable (c .before .before .before .before .before .before) in
+    let can = sendable (free (framed c)) in
     (can .settled, can .rows-exact, can .message-exact)
 
 next-requires : tie.Need-next-requires
-next-requires c κs = sendable (c .before .before .before .before .before .before .before .before .before) .in-time
+next-requires c κs = sendable (free (framed (c .before .before .before))) .in-time
 
--- an accepted send, by its state, rows and frame
-abbrev accepted-send : Sender → List ℕ → List ℕ → Sent
-accepted-send x rows frame = record { answer = answer.Accepted; sender = x; rows = rows; frame = frame }
+-- what an accepted send hands back, by its state, rows and frame
+abbrev sending : Sender → List ℕ → List ℕ → Sent
+sending x rows frame = record { answer = answer.Accepted; sender = x; rows = rows; frame = frame }
 
-returns-4 : tie.Need-returns-4
-returns-4 c =
+returns-2 : tie.Need-returns-2
+returns-2 c =
     let at-remember = c .before .before .before in
-    let at-frame = at-remember .before .before .before .before in
-    let last = at-frame .before .before .before in
-    let a = start (last .before .before .before .before .before) .args in
-    (λ i. accepted-send (c .next .ensures i) (at-remember .remember .ensures i) (at-frame .write-frame .ensures i))
-    ∙ send-taken (a .x) (now (a .rows)) (now (a .message)) (now (a .frame)) (none last)
+    let at-frame = framed (at-remember .before) in
+    let one = free at-frame in
+    let a = begun one .args in
+    (λ i. sending (c .next .ensures i) (at-remember .remember .ensures i) (at-frame .write-frame .ensures i))
+    ∙ sent (a .x) (now (a .rows)) (now (a .message)) (now (a .frame)) (uncaused one)
 
 pub send-spec : {M : Type 1} → statement M
 send-spec =
     tie.close
     (tie.spec
-    (λ c κs. tt)
-    (λ c κs. tt)
+    (λ c κs. search needs)
+    (λ c. search needs)
+    (λ c κs. search needs)
+    (λ c. search needs)
+    (λ c. search needs)
     returns
-    (λ c κs. tt)
-    (λ c κs. tt)
-    returns-2
-    (λ c κs. tt)
-    returns-3
+    (λ c. search needs)
     write-frame-requires
     remember-requires
     next-requires
     (λ c. search needs)
     (λ c. search needs)
-    returns-4)
+    returns-2)

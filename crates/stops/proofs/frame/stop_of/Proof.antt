@@ -4,7 +4,8 @@ use mathlib.Core.Path.{_≡_, sym, _∙_}
 use native.Mathlib.Omega.{arith}
 use denote.Ref.{now}
 use Rattle.protocol.specs.declared.Answer.the-variants.{Accepted}
-use Rattle.frames.specs.Fields.{slotIn, headerCause}
+use Rattle.protocol.specs.Causes.{headerCause}
+use Rattle.frames.specs.Fields.{slotIn}
 use Rattle.stops.proofs.StopLaws.{stop-header, stop-below, stop-above, passes}
 use Rattle.stops.proofs.frame.stop_of.Statement.{statement}
 use Rattle.stops.proofs.frame.stop_of.Tie as tie

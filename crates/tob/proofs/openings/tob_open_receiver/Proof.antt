@@ -8,25 +8,26 @@ use Rattle.code.specs.declared.settings.Settings.{Settings}
 use Rattle.protocol.specs.declared.Answer.the-variants as answer
 use Rattle.protocol.specs.Causes.{openCause}
 use Rattle.protocol.specs.Calls.{openReceiverOf}
+use Rattle.protocol.proofs.CauseTables.{open-exact}
 use Rattle.frames.specs.Fields.{settingsAt}
 use Rattle.state.specs.State.{stateLen, saved}
 use Rattle.layout.specs.Numbers.{taken}
 use Rattle.library.specs.Calls.{Opening}
-use Rattle.library.proofs.Outcomes.{opened-length, receiverLeft, receiver-caused, receiver-uncaused}
+use Rattle.library.proofs.Outcomes.{receiverLeft, receiver-caused, receiver-uncaused}
 use Rattle.tob.proofs.openings.tob_open_receiver.Statement.{statement}
 use Rattle.tob.proofs.openings.tob_open_receiver.Tie as tie
 
 abbrev outcome : List ℕ → ℕ → List ℕ → Opening
 outcome rows reply state = record { reply = reply; state = state; rows = rows }
 
-abbrev start : tie.After-opening-cause → tie.Start
+abbrev start : tie.After-open-cause → tie.Start
 start c = c .before .before .before .before .before .before
 
 -- the cause that was looked for
-looked : (c : tie.After-opening-cause)
-    → let a = start c .args in c .opening-cause .result ≡ openCause (settingsAt 0 (now (a .settings))) stateLen (now (a .state))
+looked : (c : tie.After-open-cause)
+    → let a = start c .args in c .open-cause .result ≡ openCause (settingsAt 0 (now (a .settings))) stateLen (now (a .state))
 looked c =
-    c .opening-cause .ensures
+    c .open-cause .ensures
     ∙ ap (λ (s : Settings). openCause s stateLen (now (start c .args .state))) (c .before .before .settings-at .ensures)
 
 returns : tie.Need-returns
@@ -57,7 +58,7 @@ save-answer-requires : tie.Need-save-answer-requires
 save-answer-requires c κs =
     let one = first (opened (c .before)) in
     let a = begun one .args in
-    opened-length (settingsAt 0 (now (a .settings))) (now (a .state)) (uncaused one)
+    open-exact (settingsAt 0 (now (a .settings))) stateLen (now (a .state)) (uncaused one)
 
 returns-2 : tie.Need-returns-2
 returns-2 c =

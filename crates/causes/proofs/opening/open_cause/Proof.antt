@@ -1,16 +1,14 @@
--- Each way out is one entry of the table of causes.
+-- Each way out is one entry of the opening's table.
 use borrow.Author.Needs.{needs}
 use borrow.Author.Tests.{eq-eqb, ne-eqb, not-true, not-false}
 use mathlib.Core.Path.{_≡_, sym, _∙_}
 use mathlib.Core.Bool.{true}
-use native.Mathlib.Omega.{arith}
 use denote.Ref.{now}
 use lib.ListN.{length}
 use Rattle.code.specs.Settings.{accepted}
 use Rattle.protocol.specs.Causes.{openCause}
-use Rattle.state.specs.State.{stateLen}
-use Rattle.tob.proofs.openings.opening_cause.Statement.{statement}
-use Rattle.tob.proofs.openings.opening_cause.Tie as tie
+use Rattle.causes.proofs.opening.open_cause.Statement.{statement}
+use Rattle.causes.proofs.opening.open_cause.Tie as tie
 
 returns : tie.Need-returns
 unfolding openCause
@@ -25,11 +23,15 @@ settled c = sym (c .before .accepted .ensures) ∙ not-false (c .before .accepte
 
 returns-2 : tie.Need-returns-2
 unfolding openCause
-returns-2 c = rw (settled (c .before), ne-eqb (length (now (start (c .before) .args .state))) stateLen (λ e. omega arith))
+returns-2 c =
+    let a = start (c .before) .args in
+    rw (settled (c .before), ne-eqb (length (now (a .rows))) (a .size) (c .if2 .taken))
 
 returns-3 : tie.Need-returns-3
 unfolding openCause
-returns-3 c = rw (settled (c .before), eq-eqb (length (now (start (c .before) .args .state))) stateLen (omega arith))
+returns-3 c =
+    let a = start (c .before) .args in
+    rw (settled (c .before), eq-eqb (length (now (a .rows))) (a .size) (c .if2 .left))
 
-pub opening-cause-spec : {M : Type 1} → statement M
-opening-cause-spec = tie.close (tie.spec (λ c κs. search needs) returns returns-2 returns-3)
+pub open-cause-spec : {M : Type 1} → statement M
+open-cause-spec = tie.close (tie.spec (λ c κs. search needs) returns returns-2 returns-3)

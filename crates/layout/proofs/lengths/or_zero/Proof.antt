@@ -2,8 +2,8 @@
 use borrow.Author.Needs.{needs}
 use borrow.Author.Tests.{not-true, not-false}
 use mathlib.Core.Path.{sym, _∙_}
-use Rattle.tob.proofs.lengths.or_zero.Statement.{statement}
-use Rattle.tob.proofs.lengths.or_zero.Tie as tie
+use Rattle.layout.proofs.lengths.or_zero.Statement.{statement}
+use Rattle.layout.proofs.lengths.or_zero.Tie as tie
 
 returns : tie.Need-returns
 returns c = rw (sym (c .before .accepted .ensures) ∙ not-true (c .before .accepted .result) (c .if1 .taken))

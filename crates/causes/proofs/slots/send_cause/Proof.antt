@@ -1,0 +1,24 @@
+-- The table of a call in a slot, with the lengths of this one.
+use borrow.Author.Needs.{needs}
+use mathlib.Core.Path.{_≡_, ap, _∙_}
+use mathlib.Core.Bool.{Bool}
+use Prim.Native.Nat.{ℕ}
+use denote.Ref.{now}
+use lib.ListN.{length}
+use Rattle.protocol.specs.Lengths.{senderLen, exactlyFramed}
+use Rattle.protocol.specs.Causes.{slotCause, sendCause}
+use Rattle.causes.proofs.slots.send_cause.Statement.{statement}
+use Rattle.causes.proofs.slots.send_cause.Tie as tie
+
+returns : tie.Need-returns
+unfolding slotCause sendCause
+returns c =
+    let at = c .before in
+    let a = at .before .before .before .before .before .before .args in
+    let s = a .x .settings in
+    c .slot-cause .ensures
+    ∙ ap (λ (b : Bool). slotCause s b (a .x .due))
+    (at .exactly-framed .ensures ∙ ap (λ (n : ℕ). exactlyFramed s n (length (now (a .rows))) (length (now (a .message))) (length (now (a .frame)))) (at .before .sender-len .ensures))
+
+pub send-cause-spec : {M : Type 1} → statement M
+send-cause-spec = tie.close (tie.spec (λ c κs. search needs) (λ c κs. search needs) (λ c κs. search needs) returns)
