@@ -5,6 +5,7 @@
 
 pub mod against;
 pub mod broadcast;
+pub mod card;
 pub mod drawn;
 pub mod field;
 pub mod frame;

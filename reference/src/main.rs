@@ -1,6 +1,6 @@
-//! The program: `patterns` prints the pattern test of PATTERNS.md, `scenarios` the scenarios
-//! of SCENARIOS.md; `play` plays a recording, `recordings` writes the examples, and `against`
-//! compares another player, as RECORDINGS.md describes.
+//! The program: `patterns` prints the pattern test of PATTERNS.md, `card` the figures of CARD.md,
+//! `scenarios` the scenarios of SCENARIOS.md; `play` plays a recording, `recordings` writes the
+//! examples, and `against` compares another player, as RECORDINGS.md describes.
 
 #![forbid(unsafe_code)]
 
@@ -8,13 +8,14 @@ use std::io::{self, Read, Write};
 use std::path::Path;
 use std::process::ExitCode;
 
-const USAGE: &str =
-    "usage: reference patterns | scenarios | play | recordings DIR | against PROGRAM [ARGUMENT..]";
+const USAGE: &str = "usage: reference patterns | card | scenarios | play | recordings DIR \
+    | against PROGRAM [ARGUMENT..]";
 
 fn main() -> ExitCode {
     let arguments: Vec<String> = std::env::args().skip(1).collect();
     let done = match arguments.iter().map(String::as_str).collect::<Vec<_>>()[..] {
         ["patterns"] => print(&reference::patterns::lines()),
+        ["card"] => print(&reference::card::lines()),
         ["scenarios"] => print(&reference::scenarios::lines()),
         ["play"] => play(),
         ["recordings", directory] => reference::recordings::write(Path::new(directory)),

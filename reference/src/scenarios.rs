@@ -1,19 +1,11 @@
-//! The scenarios, as SCENARIOS.md describes them: the figures in three lanes, and then many
-//! calls of both ends, one line each.
+//! The scenarios, as SCENARIOS.md describes them: many calls of both ends, one line each.
 
-use std::fmt::Display;
-
-use crate::broadcast;
 use crate::frame;
 use crate::patterns::Draws;
 use crate::receiver::{self, Reply};
 use crate::sender;
 use crate::settings::Settings;
 use crate::state::{Refusal, State};
-
-/// The figures' messages of slots 0 to 5: symbol 0 of lanes 0, 1 and 2, and then symbol 1.
-const MESSAGES: [[u8; 6]; 6] =
-    [[1, 16, 0, 0, 0, 0], [0, 0, 1, 1, 16, 0], [0, 0, 0, 0, 0, 1], [0; 6], [0; 6], [0; 6]];
 
 /// Every (T, B, N), in order.
 const CODES: [(u8, u8, u8); 7] =
@@ -47,7 +39,7 @@ enum Size {
 /// All lines, without their newlines.
 pub fn lines() -> Vec<String> {
     let mut draws = Draws::from(20261116);
-    let mut lines = figures();
+    let mut lines = Vec::new();
     for (delay, burst, scattered) in CODES {
         for (kind, lanes, start) in KINDS {
             let settings = Settings { lanes, ..Settings::of_code(delay, burst, scattered) };
@@ -65,40 +57,6 @@ pub fn lines() -> Vec<String> {
     lines
 }
 
-/// "The figures in three lanes": cases 9 to 12 of document 01 with L = 3.
-fn figures() -> Vec<String> {
-    let settings = Settings { lanes: 3, ..Settings::of_code(3, 2, 2) };
-    let frames = broadcast::of(settings, &MESSAGES.map(Vec::from));
-    let mut damaged = frames.clone();
-    // Symbol 2 of lane 0, where case 12 has its other byte.
-    damaged[2][frame::HEADER + 6] = 2;
-    let mut lines = vec!["figures 3 2 2 3".to_string()];
-    lines.extend(frames.iter().map(|frame| format!("body{}", spaced(frame::body(frame)))));
-    lines.extend(told(settings, &frames, &[0, 1]));
-    lines.extend(told(settings, &frames, &[0, 1, 2]));
-    lines.extend(told(settings, &damaged, &[]));
-    lines
-}
-
-/// A receiver is told of every slot: of these losses, and of the frames of the other slots.
-fn told(settings: Settings, frames: &[Vec<u8>], lost: &[usize]) -> Vec<String> {
-    let mut rows = vec![0; receiver::rows_length(&settings)];
-    let (mut state, opened) = receiver::open(settings, &mut rows);
-    assert_eq!(opened, Ok(()));
-    let mut lines = Vec::new();
-    for (slot, frame) in frames.iter().enumerate() {
-        let mut message = vec![0; frame::message_length(&settings)];
-        let reply;
-        (state, reply) = if lost.contains(&slot) {
-            receiver::report_loss(state, &mut rows, &mut message)
-        } else {
-            receiver::report_frame(state, &mut rows, frame, &mut message)
-        };
-        lines.push(format!("told {}{}", outcome(reply, word_of_reply), spaced(&message)));
-    }
-    lines
-}
-
 fn title(s: &Settings, kind: Kind, start: u32) -> String {
     let kind = if kind == Kind::Fresh { "fresh" } else { "lent" };
     format!("scenario {} {} {} {} {kind} {start}", s.delay, s.burst, s.scattered, s.lanes)
@@ -111,7 +69,7 @@ fn sum(bytes: &[u8]) -> usize {
 }
 
 /// Each number with a space before it.
-fn spaced(numbers: &[impl Display]) -> String {
+fn spaced(numbers: &[usize]) -> String {
     numbers.iter().map(|number| format!(" {number}")).collect()
 }
 
@@ -442,18 +400,6 @@ mod tests {
             assert!((0..WAYS).all(|way| !broken(settings, way).accepted()));
             // In the last two ways it is n alone that is not accepted.
             assert_eq!([6, 7].map(|way| broken(settings, way).n()), [17, 17]);
-        }
-    }
-
-    #[test]
-    fn the_lanes_of_the_figures_have_the_messages_of_case_9() {
-        let lane = |slot: usize, lane: usize| [MESSAGES[slot][lane], MESSAGES[slot][3 + lane]];
-        let case_9 = [[1, 0], [0, 1], [0, 0], [0, 0], [0, 0], [0, 0]];
-        for slot in 0..6 {
-            assert_eq!(lane(slot, 0), case_9[slot]);
-            assert_eq!(lane(slot, 1), case_9[slot].map(|byte| 16 * byte));
-            // A slot later, and nothing before slot 0.
-            assert_eq!(lane(slot, 2), if slot == 0 { [0, 0] } else { case_9[slot - 1] });
         }
     }
 }

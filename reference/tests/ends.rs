@@ -82,7 +82,7 @@ fn frames_of_case_9(count: usize) -> Vec<Vec<u8>> {
 
 /// The replies when the frames of these slots are lost.
 fn replies(frames: &[Vec<u8>], lost: &[usize]) -> Vec<(Reply, Vec<u8>)> {
-    let mut receiver = Receiver::open(card());
+    let mut receiver = Receiver::open(frame::settings(&frames[0]));
     let heard = |slot: usize| (!lost.contains(&slot)).then_some(&frames[slot][..]);
     (0..frames.len()).map(|slot| receiver.report(heard(slot))).collect()
 }
@@ -183,6 +183,18 @@ fn every_lane_is_a_code_of_its_own() {
             assert_eq!((reply, &message), (Reply::Whole, &sent[slot - 3]));
         }
     }
+}
+
+#[test]
+fn without_a_whole_message_the_buffer_is_zeros_in_every_lane() {
+    let mut sender = Sender::open(Settings { lanes: 3, ..card() });
+    let frames: Vec<Vec<u8>> = (0..4).map(|_| sender.send(&[9; 6])).collect();
+    let mut damaged = frames.clone();
+    damaged[2][frame::HEADER + 6] ^= 1;
+    let zeros = |reply: Reply| (reply, vec![0; 6]);
+    let none = [0, 1, 2].map(|_| zeros(Reply::NoneYet));
+    assert_eq!(replies(&frames, &[0, 1, 2]), [&none[..], &[zeros(Reply::Lost)]].concat());
+    assert_eq!(replies(&damaged, &[]), [&none[..], &[zeros(Reply::Clash)]].concat());
 }
 
 /// Settings that are not accepted, as N is 0.

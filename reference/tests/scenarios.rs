@@ -1,4 +1,4 @@
-//! The lines of the scenarios: the figures in full, and how a scenario begins.
+//! The lines of the scenarios: how a scenario begins, and what its calls meet.
 
 #![forbid(unsafe_code)]
 
@@ -10,13 +10,6 @@ use reference::scenarios;
 fn lines() -> &'static [String] {
     static LINES: OnceLock<Vec<String>> = OnceLock::new();
     LINES.get_or_init(scenarios::lines)
-}
-
-/// The lines of the figures without their first word: 6 of the sender, 6 of each receiver.
-fn figures(part: usize, word: &str) -> Vec<&'static str> {
-    let from = 1 + 6 * part;
-    let behind = |line: &'static String| line.strip_prefix(word).expect("the first word");
-    lines()[from..from + 6].iter().map(behind).collect()
 }
 
 /// Each scenario: its title, and the lines behind it.
@@ -31,37 +24,8 @@ fn every_scenario() -> Vec<(&'static str, &'static [String])> {
 }
 
 #[test]
-fn figure_9_in_three_lanes() {
-    assert_eq!(lines()[0], "figures 3 2 2 3");
-    let bodies = figures(0, "body ");
-    assert_eq!(bodies[0], "1 16 0 0 0 0 0 0 0 0 0 0");
-    assert_eq!(bodies[1], "0 0 1 1 16 0 0 0 0 0 0 0");
-    assert_eq!(bodies[2], "0 0 0 0 0 1 1 16 0 0 0 0");
-    // α times 24 is 152, by figure 3.
-    assert_eq!(bodies[3], "0 0 0 0 0 0 0 0 1 24 152 0");
-    assert_eq!(bodies[4], "0 0 0 0 0 0 0 0 0 0 0 24");
-    assert_eq!(bodies[5], "0 0 0 0 0 0 0 0 0 0 0 0");
-}
-
-#[test]
-fn figure_9_is_lane_0() {
-    let of_lane_0 = |body: &str| -> String {
-        let byte = |text: &str| text.parse::<u8>().expect("a byte");
-        body.split(' ').step_by(3).map(|text| format!("{:02x}", byte(text))).collect()
-    };
-    let bodies: Vec<String> = figures(0, "body ").into_iter().map(of_lane_0).collect();
-    assert_eq!(bodies[..5], ["01000000", "00010000", "00000100", "00000018", "00000000"]);
-}
-
-#[test]
-fn figures_10_to_12_in_three_lanes() {
-    let (none, lost, clash) = ("none 0 0 0 0 0 0", "lost 0 0 0 0 0 0", "clash 0 0 0 0 0 0");
-    let sent = ["whole 1 16 0 0 0 0", "whole 0 0 1 1 16 0", "whole 0 0 0 0 0 1"];
-    let told = |receiver: usize| figures(receiver, "told ");
-    assert_eq!(told(1), [none, none, none, sent[0], sent[1], sent[2]]);
-    assert_eq!(told(2), [none, none, none, lost, lost, sent[2]]);
-    assert_eq!(told(3), [none, none, none, clash, clash, sent[2]]);
-    assert_eq!(lines()[25], "scenario 1 1 1 1 fresh 0");
+fn the_first_line_is_a_title() {
+    assert_eq!(lines()[0], "scenario 1 1 1 1 fresh 0");
 }
 
 #[test]

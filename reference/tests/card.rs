@@ -1,0 +1,68 @@
+//! The lines of the card: figures 9 to 12, in one lane and in three.
+
+#![forbid(unsafe_code)]
+
+use reference::card;
+
+/// The parts of a line behind the figure's number.
+fn behind(figure: u8, line: &str) -> Vec<String> {
+    let mut parts = line.split(' ').map(str::to_string);
+    assert_eq!(parts.next(), Some(figure.to_string()));
+    parts.collect()
+}
+
+#[test]
+fn there_are_four_lines_in_one_lane_and_four_in_three() {
+    let lines = card::lines();
+    assert_eq!(lines.len(), 9);
+    assert_eq!(lines[4], "in three lanes");
+    for half in [&lines[..4], &lines[5..]] {
+        for (figure, line) in (9..).zip(half) {
+            let messages = line.matches("whole ").count();
+            assert_eq!(behind(figure, line).len(), 6 + messages, "{line}");
+        }
+    }
+}
+
+#[test]
+fn figures_9_to_12_in_one_lane() {
+    let expected = [
+        "9 01000000 00010000 00000100 00000018 00000000 00000000",
+        "10 none none none whole 0100 whole 0001 whole 0000",
+        "11 none none none lost lost whole 0000",
+        "12 none none none clash clash whole 0000",
+    ];
+    assert_eq!(card::lines()[..4], expected);
+}
+
+#[test]
+fn figure_9_in_three_lanes() {
+    let bodies = behind(9, &card::lines()[5]);
+    assert_eq!(bodies[0], "011000000000000000000000");
+    assert_eq!(bodies[1], "000001011000000000000000");
+    assert_eq!(bodies[2], "000000000001011000000000");
+    // α times 24 is 152, by figure 3: 18 and 98 in hex.
+    assert_eq!(bodies[3], "000000000000000001189800");
+    assert_eq!(bodies[4], "000000000000000000000018");
+    assert_eq!(bodies[5], "000000000000000000000000");
+}
+
+#[test]
+fn figure_9_in_one_lane_is_lane_0_of_three() {
+    let of_lane_0 = |body: &String| -> String {
+        (0..body.len()).step_by(6).map(|at| &body[at..at + 2]).collect()
+    };
+    let lines = card::lines();
+    let bodies: Vec<String> = behind(9, &lines[5]).iter().map(of_lane_0).collect();
+    assert_eq!(bodies, behind(9, &lines[0]));
+}
+
+#[test]
+fn figures_10_to_12_in_three_lanes() {
+    let expected = [
+        "10 none none none whole 011000000000 whole 000001011000 whole 000000000001",
+        "11 none none none lost lost whole 000000000001",
+        "12 none none none clash clash whole 000000000001",
+    ];
+    assert_eq!(card::lines()[6..], expected);
+}
