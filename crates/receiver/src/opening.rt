@@ -3,6 +3,7 @@ use buffers::receiver_len;
 use buffers::row_len;
 use causes::open_cause;
 use code::Settings;
+use ends::opened_receiver;
 use protocol::Answer;
 use protocol::Receiver;
 use ring::receive_zeros;
@@ -32,6 +33,6 @@ pub fn open(s: Settings, rows: &mut [u8]) -> Opened
     receive_zeros(rows, row_len(s));
     Opened {
         answer: Answer::Accepted,
-        receiver: Receiver::opened(s),
+        receiver: opened_receiver(s),
     }
 }

@@ -1,5 +1,6 @@
 // What the reports of losses and of frames share.
 use buffers::clear;
+use ends::next_receiver;
 use protocol::Cause;
 use protocol::Receiver;
 use protocol::Reply;
@@ -37,7 +38,7 @@ pub(crate) fn moved_on(x: Receiver, rows: &[u8], message: &mut [u8]) -> Reported
 {
     let s = x.settings;
     let delay = s.effective_delay() as u32;
-    let next = x.next();
+    let next = next_receiver(x);
     if x.due < delay {
         clear(message);
         return Reported {

@@ -4,6 +4,8 @@ use buffers::sender_len;
 use causes::open_cause;
 use causes::send_cause;
 use code::Settings;
+use ends::next_sender;
+use ends::opened_sender;
 use framing::remember;
 use framing::write_frame;
 use protocol::Answer;
@@ -39,7 +41,7 @@ pub fn open(s: Settings, rows: &mut [u8]) -> Opened
     clear(rows);
     Opened {
         answer: Answer::Accepted,
-        sender: Sender::opened(s),
+        sender: opened_sender(s),
     }
 }
 
@@ -67,7 +69,7 @@ pub fn send(x: Sender, rows: &mut [u8], message: &[u8], frame: &mut [u8]) -> Sen
     let s = x.settings;
     write_frame(frame, rows, message, 1, s, x.due);
     remember(rows, message, s, x.due);
-    let next = x.next();
+    let next = next_sender(x);
     Sent {
         answer: Answer::Accepted,
         sender: next,

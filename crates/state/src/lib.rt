@@ -1,6 +1,8 @@
 // The state that a caller keeps between calls: read, refused, and written.
 use buffers::write_at;
 use code::Settings;
+use ends::receiver_at;
+use ends::sender_at;
 use frames::settings_at;
 use frames::slot_at;
 use protocol::Answer;
@@ -28,7 +30,7 @@ pub fn sender_in(state: &[u8]) -> Sender
     requires { ⌜ stateLen ≤ length (now state) ⌝ }
     ensures { λ r. ⌜ r ≡ senderIn (now (state .entry)) ⌝ }
 {
-    Sender::at(settings_at(state, 4), slot_at(state, 9))
+    sender_at(settings_at(state, 4), slot_at(state, 9))
 }
 
 // The receiver that a state keeps.
@@ -36,7 +38,7 @@ pub fn receiver_in(state: &[u8]) -> Receiver
     requires { ⌜ stateLen ≤ length (now state) ⌝ }
     ensures { λ r. ⌜ r ≡ receiverIn (now (state .entry)) ⌝ }
 {
-    Receiver::at(settings_at(state, 4), slot_at(state, 9))
+    receiver_at(settings_at(state, 4), slot_at(state, 9))
 }
 
 // The mark of a state of this end.

@@ -2,6 +2,8 @@
 // thing longer by one, 1 for one of exact length, 2 for one shorter by one.
 use crate::print;
 use code::Settings;
+use ends::receiver_at;
+use ends::sender_at;
 use protocol::Receiver;
 use protocol::Sender;
 ghost use mathlib.Core.Path.{_≡_};
@@ -70,7 +72,7 @@ pub fn send(call: Call, rows: &mut [u8], message: &[u8], frame: &mut [u8]) -> Se
         ≡ sendCut call (now (rows .entry)) (now (message .entry)) (now (frame .entry))
         ⌝ }
 {
-    let x = Sender::at(call.settings, call.due);
+    let x = sender_at(call.settings, call.due);
     let rows_end = end(rows.len(), call.rows);
     let message_end = end(message.len(), call.first);
     let frame_end = end(frame.len(), call.second);
@@ -91,7 +93,7 @@ pub fn heard(call: Call, rows: &mut [u8], frame: &[u8], buffer: &mut [u8]) -> Re
         ≡ heardCut call (now (rows .entry)) (now (frame .entry)) (now (buffer .entry))
         ⌝ }
 {
-    let x = Receiver::at(call.settings, call.due);
+    let x = receiver_at(call.settings, call.due);
     let rows_end = end(rows.len(), call.rows);
     let frame_end = end(frame.len(), call.first);
     let buffer_end = end(buffer.len(), call.second);
@@ -112,7 +114,7 @@ pub fn loss(call: Call, rows: &mut [u8], buffer: &mut [u8]) -> Receiver
         ≡ lossCut call (now (rows .entry)) (now (buffer .entry))
         ⌝ }
 {
-    let x = Receiver::at(call.settings, call.due);
+    let x = receiver_at(call.settings, call.due);
     let rows_end = end(rows.len(), call.rows);
     let buffer_end = end(buffer.len(), call.first);
     let reported = receiver::loss(x, &mut rows[0..rows_end], &mut buffer[0..buffer_end]);

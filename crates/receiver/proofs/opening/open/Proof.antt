@@ -53,7 +53,7 @@ returns-2 c =
     ∙ ap₂ (λ (n m : ℕ). table n (λ q. cond (eqb (q % m) 0) 1 0))
     (open-exact (a .s) (receiverLen (a .s)) (now (a .rows)) (uncaused one)) (sized .row-len .ensures)
     ∙ opened-rows (a .s))
-    (c .opened .ensures)
+    (c .opened-receiver .ensures)
     ∙ opened (a .s) (now (a .rows)) (uncaused one)
 
 pub open-spec : {M : Type 1} → statement M

@@ -34,7 +34,7 @@ returns c =
     let on = c .before .before .before .before .before .before in
     let start = on .before .before .before .before .before in
     let x = start .args .x in
-    told-by x (now (start .args .rows)) (on .next .result) reply.NoneYet _ (on .next .ensures)
+    told-by x (now (start .args .rows)) (on .next-receiver .result) reply.NoneYet _ (on .next-receiver .ensures)
     (rw (lt-ltb (x .due) (delayOf (x .settings)) (omega arith)))
     (c .before .before .clear .ensures ∙ ap (λ (n : ℕ). replicate n 0) (start .pre .3))
 
@@ -55,7 +55,7 @@ returns-2 c =
     let delay = on .before .effective-delay .ensures in
     let says = told s rows (x .due + 1) (x .due - _) (now (start .args .message)) (start .pre .0) (start .pre .2) (start .pre .3)
     (at .decide .result) _ (at .decide .ensures) in
-    told-by x rows (on .next .result) (at .decide .result) _ (on .next .ensures)
+    told-by x rows (on .next-receiver .result) (at .decide .result) _ (on .next-receiver .ensures)
     (rw (le-ltb (x .due) (delayOf s) (omega arith)) (says .0 ∙ ap (λ (d : ℕ). verdict s rows (x .due + 1) (x .due - d)) delay))
     (says .1 ∙ ap (λ (d : ℕ). bufferOf s rows (x .due + 1) (x .due - d) (at .decide .result)) delay)
 

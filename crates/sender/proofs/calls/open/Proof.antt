@@ -41,7 +41,7 @@ returns-2 c =
     let a = begun one .args in
     ap₂ opening
     (at .clear .ensures ∙ ap (λ (n : ℕ). replicate n 0) (open-exact (a .s) (senderLen (a .s)) (now (a .rows)) (uncaused one)))
-    (c .opened .ensures)
+    (c .opened-sender .ensures)
     ∙ opened (a .s) (now (a .rows)) (uncaused one)
 
 pub open-spec : {M : Type 1} → statement M

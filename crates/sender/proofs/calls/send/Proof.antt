@@ -56,7 +56,7 @@ remember-requires c κs =
     let can = sendable (free (framed c)) in
     (can .settled, can .rows-exact, can .message-exact)
 
-next-requires : tie.Need-next-requires
+next-requires : tie.Need-next-sender-requires
 next-requires c κs = sendable (free (framed (c .before .before .before))) .in-time
 
 -- what an accepted send hands back, by its state, rows and frame
@@ -69,7 +69,7 @@ returns-2 c =
     let at-frame = framed (at-remember .before) in
     let one = free at-frame in
     let a = begun one .args in
-    (λ i. sending (c .next .ensures i) (at-remember .remember .ensures i) (at-frame .write-frame .ensures i))
+    (λ i. sending (c .next-sender .ensures i) (at-remember .remember .ensures i) (at-frame .write-frame .ensures i))
     ∙ sent (a .x) (now (a .rows)) (now (a .message)) (now (a .frame)) (uncaused one)
 
 pub send-spec : {M : Type 1} → statement M

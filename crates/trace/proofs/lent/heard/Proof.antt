@@ -15,7 +15,7 @@ ended c = called c .before .before .before .before
 
 returns : tie.Need-returns
 returns c =
-    heard _ _ _ _ _ _ _ _ _ (ended c .before .before .before .at .ensures) (ended c .before .before .end .ensures) (ended c .before .end2 .ensures) (ended c .end3 .ensures)
+    heard _ _ _ _ _ _ _ _ _ (ended c .before .before .before .receiver-at .ensures) (ended c .before .before .end .ensures) (ended c .before .end2 .ensures) (ended c .end3 .ensures)
     (called c .heard .ensures)
 
 pub heard-spec : {M : Type 1} → statement M

@@ -14,7 +14,7 @@ abbrev ended : tie.After-result → tie.After-end2
 ended c = called c .before .before .before
 
 returns : tie.Need-returns
-returns c = lost _ _ _ _ _ _ _ (ended c .before .before .at .ensures) (ended c .before .end .ensures) (ended c .end2 .ensures) (called c .loss .ensures)
+returns c = lost _ _ _ _ _ _ _ (ended c .before .before .receiver-at .ensures) (ended c .before .end .ensures) (ended c .end2 .ensures) (called c .loss .ensures)
 
 pub loss-spec : {M : Type 1} → statement M
 loss-spec =

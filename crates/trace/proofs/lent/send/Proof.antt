@@ -14,7 +14,7 @@ ended c = called c .before .before .before .before
 
 returns : tie.Need-returns
 returns c =
-    sent _ _ _ _ _ _ _ _ _ (ended c .before .before .before .at .ensures) (ended c .before .before .end .ensures) (ended c .before .end2 .ensures) (ended c .end3 .ensures)
+    sent _ _ _ _ _ _ _ _ _ (ended c .before .before .before .sender-at .ensures) (ended c .before .before .end .ensures) (ended c .before .end2 .ensures) (ended c .end3 .ensures)
     (called c .send .ensures)
 
 pub send-spec : {M : Type 1} → statement M

@@ -1,0 +1,60 @@
+// The states of both ends, made here alone, as protocol's specs/States.antt says.
+use code::Settings;
+use protocol::Receiver;
+use protocol::Sender;
+ghost use mathlib.Core.Path.{_≡_};
+ghost use Prim.Native.Nat.{_≤_};
+ghost use Rattle.protocol.specs.Lengths.{lastSlot};
+ghost use Rattle.protocol.specs.States.{senderAt, openedSender, sentOn, receiverAt, openedReceiver, reportedOn};
+
+// A sender with these settings and this slot due.
+pub fn sender_at(s: Settings, due: u32) -> Sender
+    ensures { λ r. ⌜ r ≡ senderAt s due ⌝ }
+{
+    Sender {
+        settings: s,
+        due: due,
+    }
+}
+
+// A sender as an accepted opening makes it.
+pub fn opened_sender(s: Settings) -> Sender
+    ensures { λ r. ⌜ r ≡ openedSender s ⌝ }
+{
+    sender_at(s, 0)
+}
+
+// A sender as an accepted send leaves it.
+pub fn next_sender(x: Sender) -> Sender
+    requires { ⌜ x .due ≤ lastSlot ⌝ }
+    ensures { λ r. ⌜ r ≡ sentOn x ⌝ }
+{
+    let s = x.settings;
+    sender_at(s, x.due + 1)
+}
+
+// A receiver with these settings and this slot due.
+pub fn receiver_at(s: Settings, due: u32) -> Receiver
+    ensures { λ r. ⌜ r ≡ receiverAt s due ⌝ }
+{
+    Receiver {
+        settings: s,
+        due: due,
+    }
+}
+
+// A receiver as an accepted opening makes it.
+pub fn opened_receiver(s: Settings) -> Receiver
+    ensures { λ r. ⌜ r ≡ openedReceiver s ⌝ }
+{
+    receiver_at(s, 0)
+}
+
+// A receiver as an accepted report leaves it.
+pub fn next_receiver(x: Receiver) -> Receiver
+    requires { ⌜ x .due ≤ lastSlot ⌝ }
+    ensures { λ r. ⌜ r ≡ reportedOn x ⌝ }
+{
+    let s = x.settings;
+    receiver_at(s, x.due + 1)
+}
