@@ -48,11 +48,9 @@ fn place_sources(
     roles: &mut [u8; 16],
 ) -> usize
     requires { ⌜ Ready s (now rows) t × (i < kOf s) × (now places ≡ replicate 16 0) × (now roles ≡ replicate 16 16) ⌝ }
-    ensures { λ r. ⌜
-        (r ≡ rowAt s t i (kOf s))
-        × (now (places .exit) ≡ placesTo s t i (kOf s))
-        × (now (roles .exit) ≡ firstRoles s (knownIn s (flagsOf s (now (rows .entry)) end t i)))
-        ⌝ }
+    ensures next { λ r. ⌜ r ≡ rowAt s t i (kOf s) ⌝ }
+    ensures places { λ _. ⌜ now (places .exit) ≡ placesTo s t i (kOf s) ⌝ }
+    ensures roles { λ _. ⌜ now (roles .exit) ≡ firstRoles s (knownIn s (flagsOf s (now (rows .entry)) end t i)) ⌝ }
 {
     let lanes = s.lanes as usize;
     let mut start = first_start(s, t, i);
@@ -88,7 +86,8 @@ fn place_parities(
         × (now places ≡ placesTo s t i (kOf s))
         × (now flags ≡ replicate 16 0)
         ⌝ }
-    ensures { λ _. ⌜ (now (places .exit) ≡ placesOf s t i) × (now (flags .exit) ≡ parityFlags s (flagsOf s (now (rows .entry)) end t i)) ⌝ }
+    ensures places { λ _. ⌜ now (places .exit) ≡ placesOf s t i ⌝ }
+    ensures flags { λ _. ⌜ now (flags .exit) ≡ parityFlags s (flagsOf s (now (rows .entry)) end t i) ⌝ }
 {
     let lanes = s.lanes as usize;
     let mut start = first;
@@ -122,11 +121,9 @@ pub fn locate(
         × (now flags ≡ replicate 16 0)
         × (now roles ≡ replicate 16 16)
         ⌝ }
-    ensures { λ _. ⌜
-        (now (places .exit) ≡ placesOf s t i)
-        × (now (flags .exit) ≡ parityFlags s (flagsOf s (now (rows .entry)) end t i))
-        × (now (roles .exit) ≡ firstRoles s (knownIn s (flagsOf s (now (rows .entry)) end t i)))
-        ⌝ }
+    ensures places { λ _. ⌜ now (places .exit) ≡ placesOf s t i ⌝ }
+    ensures flags { λ _. ⌜ now (flags .exit) ≡ parityFlags s (flagsOf s (now (rows .entry)) end t i) ⌝ }
+    ensures roles { λ _. ⌜ now (roles .exit) ≡ firstRoles s (knownIn s (flagsOf s (now (rows .entry)) end t i)) ⌝ }
 {
     let first = place_sources(s, rows, end, t, i, places, roles);
     place_parities(s, rows, end, t, i, first, places, flags);

@@ -52,7 +52,7 @@ read c = let a = c .args in flagsOf (a .s) (now (a .rows)) (a .due + a .i) (a .t
 eliminate-requires : tie.Need-eliminate-requires
 eliminate-requires c κs =
     let at-locate = c .before .before in
-    (ap length (at-locate .locate .ensures .2) ∙ first-sixteen _ _, begun at-locate .pre .5)
+    (ap length (at-locate .locate .ensures .1 .1) ∙ first-sixteen _ _, begun at-locate .pre .5)
 
 -- the matrix and the roles are those of elimination over the flags
 reduced : (c : tie.After-eliminate)
@@ -62,7 +62,7 @@ reduced c =
     let start = begun (located c) in
     let is = located c .locate .ensures in
     c .eliminate .ensures .0
-    ∙ located-eliminated (start .args .s) (start .pre .0 .settings) (read start) _ _ _ (start .pre .3) (is .1) (is .2)
+    ∙ located-eliminated (start .args .s) (start .pre .0 .settings) (read start) _ _ _ (start .pre .3) (is .1 .0) (is .1 .1)
 
 reduced-by : (c : tie.After-eliminate)
     → let start = begun (located c) in
@@ -83,7 +83,7 @@ left-by c =
     let h = shaped start in
     let is = located c .locate .ensures in
     subst⁻¹ (Unsolved (a .s) (read start) (eliminated (a .s) (knownIn (a .s) (read start)) .roles)) (c .eliminate .ensures .1)
-    (located-left (a .s) passed (read start) _ _ _ (start .pre .3) (is .1) (is .2)
+    (located-left (a .s) passed (read start) _ _ _ (start .pre .3) (is .1 .0) (is .1 .1)
     (λ q source. flag-cases (a .s) passed (now (a .rows)) (a .due) (a .t) (a .i) q (omega arith)))
 
 answer-requires : tie.Need-answer-requires
@@ -93,10 +93,11 @@ answer-requires c κs =
     let start = begun at-locate in
     let a = start .args in
     let passed = start .pre .0 .settings in
+    let is = at-locate .locate .ensures in
     let h = shaped start in (
       record {
         settings = passed;
-        inside = λ p below. subst⁻¹ (λ (l : List ℕ). getD l p 0 + a .s .lanes ≤ length (now (a .rows))) (at-locate .locate .ensures .0)
+        inside = λ p below. subst⁻¹ (λ (l : List ℕ). getD l p 0 + a .s .lanes ≤ length (now (a .rows))) (is .0)
             (omega (arith, start .pre .0 .rows-exact, place-inside (a .s) h (a .t) (a .i) p below));
       },
       start .pre .2,
@@ -105,7 +106,7 @@ answer-requires c κs =
       subst⁻¹ (λ (x : Reduced). Own (a .s) x (a .i)) (reduced-by at-eliminate)
           (own-reduced (a .s) (a .i) (start .pre .2) passed (read start)),
       subst⁻¹ (ParityOnly (a .s)) (at-eliminate .eliminate .ensures .1)
-          (located-only (a .s) passed (read start) _ _ _ (start .pre .3) (at-locate .locate .ensures .1) (at-locate .locate .ensures .2)),
+          (located-only (a .s) passed (read start) _ _ _ (start .pre .3) (is .1 .0) (is .1 .1)),
     )
 
 returns : tie.Need-returns

@@ -30,6 +30,10 @@ Inv-loop s rows end t i first places₀ flags₀ lanes start₀ offset₀ p₀ p
 abbrev μ-loop : tie.MeasureT-loop
 μ-loop s rows end t i first places₀ flags₀ lanes start₀ offset₀ p₀ places flags start offset p = nOf s - p
 
+-- back from the loop to the entry
+abbrev begun : tie.At-loop Inv-loop μ-loop → tie.Start Inv-loop μ-loop
+begun c = c .before .before .before .before .before
+
 -- the numbers are small
 few : (c : tie.Then1 Inv-loop μ-loop)
     → let at = c .before .before .loop in
@@ -37,7 +41,7 @@ few : (c : tie.Then1 Inv-loop μ-loop)
 few c =
     let at-loop = c .before .before in
     let at = at-loop .loop in
-    let a = at-loop .before .before .before .before .before .args in
+    let a = begun at-loop .args in
     let h = at .inv .0 in
     let p-few : at .p ≤ 16 = omega arith in (
       omega arith,
@@ -75,7 +79,7 @@ known-flag-requires : tie.Need-known-flag-requires Inv-loop μ-loop
 known-flag-requires c κs =
     let at-loop = c .before .before in
     let at = at-loop .loop in
-    let start = at-loop .before .before .before .before .before in
+    let start = begun at-loop in
     let a = start .args in
     omega (arith, at .inv .3, start .pre .0 .rows-exact, first-inside (a .s) (at .inv .0) (a .t) (a .i) (at .p))
 
@@ -83,7 +87,7 @@ next-start-requires : tie.Need-next-start-requires Inv-loop μ-loop
 next-start-requires c κs =
     let at-loop = c .before .before .before in
     let at = at-loop .loop in
-    let start = at-loop .before .before .before .before .before in
+    let start = begun at-loop in
     let a = start .args in
     (start .pre .0 .settings, omega (arith, at .inv .3, row-ends (a .s) (at .inv .0) (a .t) (a .i) (at .p)))
 
@@ -93,7 +97,7 @@ loop-again c =
     let turn = called .before in
     let at-loop = turn .before .before in
     let at = at-loop .loop in
-    let start = at-loop .before .before .before .before .before in
+    let start = begun at-loop in
     let a = start .args in
     let h = at .inv .0 in
     let below : at .p < nOf (a .s) = omega arith in
@@ -118,7 +122,7 @@ unfolding placesTo placesOf parityFlags
 returns c =
     let at-loop = c .before .before in
     let at = at-loop .loop in
-    let a = at-loop .before .before .before .before .before .args in
+    let a = begun at-loop .args in
     let read : List ℕ = flagsOf (a .s) (now (a .rows)) (a .end) (a .t) (a .i) in
     let all : at .p ≡ nOf (a .s) = omega arith in (
       at .inv .5 ∙ ap (λ (m : ℕ). table 16 (upTo 0 m (placeOf (a .s) (a .t) (a .i)))) all,
@@ -141,7 +145,7 @@ place-parities-spec =
     (λ c. omega (arith, few c))
     (λ c. omega (arith, few c .0))
     (λ c. few c .0)
-    (λ c. omega (arith, few c, c .before .before .before .before .before .before .before .pre .0 .slot-fits))
+    (λ c. omega (arith, few c, begun (c .before .before) .pre .0 .slot-fits))
     known-flag-requires
     (λ c. few (c .before) .0)
     next-start-requires

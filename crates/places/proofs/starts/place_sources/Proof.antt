@@ -37,6 +37,10 @@ Inv-loop s rows end t i places₀ roles₀ lanes start₀ offset₀ p₀ places 
 abbrev μ-loop : tie.MeasureT-loop
 μ-loop s rows end t i places₀ roles₀ lanes start₀ offset₀ p₀ places roles start offset p = kOf s - p
 
+-- back from the loop to the entry
+abbrev begun : tie.At-loop Inv-loop μ-loop → tie.Start Inv-loop μ-loop
+begun c = c .before .before .before .before
+
 -- the numbers are small
 few : (c : tie.Then1 Inv-loop μ-loop)
     → let at = c .before .before .loop in
@@ -44,7 +48,7 @@ few : (c : tie.Then1 Inv-loop μ-loop)
 few c =
     let at-loop = c .before .before in
     let at = at-loop .loop in
-    let a = at-loop .before .before .before .before .args in
+    let a = begun at-loop .args in
     let h = at .inv .0 in
     let p-few : at .p ≤ 16 = omega arith in (
       omega arith,
@@ -69,7 +73,7 @@ known-flag-requires : tie.Need-known-flag-requires Inv-loop μ-loop
 known-flag-requires c κs =
     let at-loop = c .before .before in
     let at = at-loop .loop in
-    let start = at-loop .before .before .before .before in
+    let start = begun at-loop in
     let a = start .args in
     omega (arith, at .inv .2, start .pre .0 .rows-exact, first-inside (a .s) (at .inv .0) (a .t) (a .i) (at .p))
 
@@ -77,7 +81,7 @@ next-start-requires : tie.Need-next-start-requires Inv-loop μ-loop
 next-start-requires c κs =
     let at-loop = c .before .before .before .before in
     let at = at-loop .loop in
-    let start = at-loop .before .before .before .before in
+    let start = begun at-loop in
     let a = start .args in
     (start .pre .0 .settings, omega (arith, at .inv .2, row-ends (a .s) (at .inv .0) (a .t) (a .i) (at .p)))
 
@@ -88,7 +92,7 @@ loop-again c =
     let turn = called .before in
     let at-loop = turn .before .before in
     let at = at-loop .loop in
-    let start = at-loop .before .before .before .before in
+    let start = begun at-loop in
     let a = start .args in
     let h = at .inv .0 in
     let source : at .p < kOf (a .s) = omega arith in
@@ -118,15 +122,15 @@ unfolding placesTo
 returns c =
     let at-loop = c .before .before in
     let at = at-loop .loop in
-    let a = at-loop .before .before .before .before .args in
+    let a = begun at-loop .args in
     let h = at .inv .0 in
     let read : List ℕ = flagsOf (a .s) (now (a .rows)) (a .end) (a .t) (a .i) in
-    let all : at .p ≡ kOf (a .s) = omega arith in (
-      at .inv .2 ∙ ap (rowAt (a .s) (a .t) (a .i)) all,
-      at .inv .4 ∙ ap (λ (m : ℕ). table 16 (upTo 0 m (placeOf (a .s) (a .t) (a .i)))) all,
-      at .inv .5 ∙ filled-all 16 (at .p) (roleOf (a .s) read) (λ q past. rw (le-ltb q (kOf (a .s)) (omega arith)))
-          ∙ first-flags (a .s) h read,
-    )
+    let all : at .p ≡ kOf (a .s) = omega arith in
+    let places = at .inv .4 ∙ ap (λ (m : ℕ). table 16 (upTo 0 m (placeOf (a .s) (a .t) (a .i)))) all in
+    let roles =
+    at .inv .5 ∙ filled-all 16 (at .p) (roleOf (a .s) read) (λ q past. rw (le-ltb q (kOf (a .s)) (omega arith)))
+    ∙ first-flags (a .s) h read in
+    (at .inv .2 ∙ ap (rowAt (a .s) (a .t) (a .i)) all, (places, roles))
 
 pub place-sources-spec : {M : Type 1} → statement M
 place-sources-spec =
@@ -141,7 +145,7 @@ place-sources-spec =
     (λ c. omega (arith, few c))
     (λ c. omega (arith, few c .0))
     (λ c. few c .0)
-    (λ c. omega (arith, few c, c .before .before .before .before .before .before .pre .0 .slot-fits))
+    (λ c. omega (arith, few c, begun (c .before .before) .pre .0 .slot-fits))
     known-flag-requires
     (λ c. omega (arith, few (c .before .before) .0))
     (λ c. few (c .before .before) .0)
