@@ -28,7 +28,8 @@ fn double(sum: &mut [u8; 64])
 
 // The sum of two bytes, and the bound of the second.
 fn plus(x: u8, y: u8) -> u8
-    ensures { λ r. ⌜ (r ≡ x ⊕ y) × (y < 256) ⌝ }
+    ensures sum { λ r. ⌜ r ≡ x ⊕ y ⌝ }
+    ensures byte { λ _. ⌜ y < 256 ⌝ }
 {
     Gf256(x).sum(Gf256(y)).0
 }
@@ -36,10 +37,8 @@ fn plus(x: u8, y: u8) -> u8
 // Adds a vector, lane by lane; its lanes are bytes.
 fn add(sum: &mut [u8; 64], vector: &[u8; 64])
     requires { ⌜ length (now sum) ≡ 64 ⌝ }
-    ensures { λ _. ⌜
-        (now (sum .exit) ≡ table 64 (λ v. getD (now (sum .entry)) v 0 ⊕ getD (now (vector .entry)) v 0))
-        × ((v : ℕ) → v < 64 → getD (now (vector .entry)) v 0 < 256)
-        ⌝ }
+    ensures sum { λ _. ⌜ now (sum .exit) ≡ table 64 (λ v. getD (now (sum .entry)) v 0 ⊕ getD (now (vector .entry)) v 0) ⌝ }
+    ensures bytes { λ _. ⌜ ((v : ℕ) → v < 64 → getD (now (vector .entry)) v 0 < 256) ⌝ }
 {
     let mut v: usize = 0;
     while v < 64 {

@@ -24,8 +24,9 @@ abbrev μ-loop : tie.MeasureT-loop
 
 loop-again : tie.Need-loop-again Inv-loop μ-loop
 loop-again c =
-    let at = c .before .before .before .before .loop in
-    let a = c .before .before .before .before .before .args in
+    let at-loop = c .before .before .before .before in
+    let at = at-loop .loop in
+    let a = at-loop .before .args in
     let value =
     c .plus .ensures .0 ∙ ap (λ (y : ℕ). y ⊕ getD (now (a .vector)) (at .v) 0) (at .inv .3 (at .v) (le-refl (at .v))) in (
       omega arith,

@@ -14,12 +14,22 @@ use Rattle.halves.proofs.Planes.{termAt, four-planes, by-four-bits}
 use Rattle.vectors.proofs.sums.by_nibble.Statement.{statement}
 use Rattle.vectors.proofs.sums.by_nibble.Tie as tie
 
+-- back to the entry from each plane but the last
+abbrev from-first : tie.After-add-plane → tie.Start
+from-first c = c .before .before
+
+abbrev from-second : tie.After-add-plane2 → tie.Start
+from-second c = from-first (c .before .before .before .before)
+
+abbrev from-third : tie.After-add-plane3 → tie.Start
+from-third c = from-second (c .before .before .before .before)
+
 double-requires : tie.Need-double-requires
 double-requires c κs = ap length (c .before .add-plane .ensures) ∙ length-table 64 _
 
 add-plane-requires-2 : tie.Need-add-plane-requires-2
 add-plane-requires-2 c κs =
-    let pre = c .before .before .before .before .before .pre in
+    let pre = from-first (c .before .before .before) .pre in
     (ap length (c .before .double .ensures) ∙ length-table 64 _, omega arith, pre .0, pre .1)
 
 double-requires-2 : tie.Need-double-requires-2
@@ -27,7 +37,7 @@ double-requires-2 c κs = ap length (c .before .add-plane2 .ensures) ∙ length-
 
 add-plane-requires-3 : tie.Need-add-plane-requires-3
 add-plane-requires-3 c κs =
-    let pre = c .before .before .before .before .before .before .before .before .before .pre in
+    let pre = from-second (c .before .before .before) .pre in
     (ap length (c .before .double2 .ensures) ∙ length-table 64 _, omega arith, pre .0, pre .1)
 
 double-requires-3 : tie.Need-double-requires-3
@@ -35,7 +45,7 @@ double-requires-3 c κs = ap length (c .before .add-plane3 .ensures) ∙ length-
 
 add-plane-requires-4 : tie.Need-add-plane-requires-4
 add-plane-requires-4 c κs =
-    let pre = c .before .before .before .before .before .before .before .before .before .before .before .before .before .pre in
+    let pre = from-third (c .before .before .before) .pre in
     (ap length (c .before .double3 .ensures) ∙ length-table 64 _, omega arith, pre .0, pre .1)
 
 returns : tie.Need-returns
@@ -44,7 +54,7 @@ returns c =
     let third = c .before .before .before .before in
     let second = third .before .before .before .before in
     let first = second .before .before .before .before in
-    let a = first .before .before .args in
+    let a = from-third third .args in
     let plane : ℕ → ℕ → ℕ = λ t v. sum (a .count * 2) (termAt (now (a .halves)) t (now (a .pairs)) v) in
     four-planes (plane 3) (plane 2) (plane 1) (plane 0) _ _ _ _ _ _ _
     (first .add-plane .ensures)
