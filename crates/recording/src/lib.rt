@@ -40,7 +40,8 @@ fn frame_at(recording: &[u8], offset: usize, size: usize) -> Found
 
 // A reader at the start of a recording.
 pub fn from_start<'a>(recording: &'a [u8]) -> Reader<'a>
-    ensures { λ r. ⌜ (r .recording ≡ recording .entry) × (r .offset ≡ 0) ⌝ }
+    ensures recording { λ r. ⌜ r .recording ≡ recording .entry ⌝ }
+    ensures offset { λ r. ⌜ r .offset ≡ 0 ⌝ }
 {
     Reader {
         recording,
@@ -57,7 +58,8 @@ pub fn next<'a>(r: Reader<'a>, size: usize) -> Found
 
 // The same recording, read from another offset.
 pub fn moved<'a>(r: Reader<'a>, offset: usize) -> Reader<'a>
-    ensures { λ q. ⌜ (q .recording ≡ r .entry .recording) × (q .offset ≡ offset) ⌝ }
+    ensures recording { λ q. ⌜ q .recording ≡ r .entry .recording ⌝ }
+    ensures offset { λ q. ⌜ q .offset ≡ offset ⌝ }
 {
     Reader {
         recording: r.recording,
