@@ -55,12 +55,10 @@ fn refused(r: Reply) -> bool
 // A refusal is the last step.
 pub fn stopped(p: Player, c: Cause, line: &mut [u8]) -> Progress
     requires { ⌜ 18 ≤ length (now line) ⌝ }
-    ensures { λ r. ⌜
-        (r .player ≡ p)
-        × (r .len ≡ length (stopLine c))
-        × (r .over ≡ true)
-        × (now (line .exit) ≡ written (stopLine c) (now (line .entry)))
-        ⌝ }
+    ensures player { λ r. ⌜ r .player ≡ p ⌝ }
+    ensures len { λ r. ⌜ r .len ≡ length (stopLine c) ⌝ }
+    ensures over { λ r. ⌜ r .over ≡ true ⌝ }
+    ensures line { λ _. ⌜ now (line .exit) ≡ written (stopLine c) (now (line .entry)) ⌝ }
 {
     let len = write_stop(c, line);
     Progress {
@@ -73,12 +71,11 @@ pub fn stopped(p: Player, c: Cause, line: &mut [u8]) -> Progress
 // A report by this receiver, told on the line; the next frame starts at the offset, and a refused report is the last.
 pub fn told(x: Receiver, offset: usize, r: Reported, message: &[u8], line: &mut [u8]) -> Progress
     requires { ⌜ 18 + 2 * length (now message) ≤ length (now line) ⌝ }
-    ensures { λ q. ⌜
-        (q .player ≡ record { receiver = r .receiver; offset = offset })
-        × (q .len ≡ length (lineOf (messageDue (x .settings) (x .due)) (r .reply) (now (message .entry))))
-        × (q .over ≡ refuses (r .reply))
-        × (now (line .exit) ≡ written (lineOf (messageDue (x .settings) (x .due)) (r .reply) (now (message .entry))) (now (line .entry)))
-        ⌝ }
+    ensures player { λ q. ⌜ q .player ≡ record { receiver = r .receiver; offset = offset } ⌝ }
+    ensures len { λ q. ⌜ q .len ≡ length (lineOf (messageDue (x .settings) (x .due)) (r .reply) (now (message .entry))) ⌝ }
+    ensures over { λ q. ⌜ q .over ≡ refuses (r .reply) ⌝ }
+    ensures line { λ _. ⌜ now (line .exit)
+        ≡ written (lineOf (messageDue (x .settings) (x .due)) (r .reply) (now (message .entry))) (now (line .entry)) ⌝ }
 {
     let reply = r.reply;
     let after = r.receiver;

@@ -9,9 +9,10 @@ use Rattle.progress.proofs.stopped.Tie as tie
 
 returns : tie.Need-returns
 returns c =
-    let a = c .before .before .before .before .before .args in
-    let wrote = stop-parts (a .c) (now (a .line)) _ _ (c .before .before .write-stop .ensures) (omega arith) in
-    (refl, wrote .0, refl, wrote .1)
+    let called = c .before .before in
+    let a = called .before .before .before .args in
+    let wrote = stop-parts (a .c) (now (a .line)) _ _ (called .write-stop .ensures) (omega arith) in
+    (refl, (wrote .0, (refl, wrote .1)))
 
 pub stopped-spec : {M : Type 1} → statement M
 stopped-spec = tie.close (tie.spec (λ c κs. search needs) (λ c. search needs) returns)

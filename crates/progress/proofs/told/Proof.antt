@@ -13,17 +13,16 @@ use Rattle.progress.proofs.told.Tie as tie
 returns : tie.Need-returns
 unfolding longest
 returns c =
-    let start = c .before .before .before .before .before .before .before .before .before in
-    let a = start .args in
     let called = c .before .before .before in
-    let number = called .before .before .about in
+    let asked = called .before .before in
+    let number = asked .about in
+    let start = asked .before .before .before .before in
+    let a = start .args in
     let same = number .ensures in
-    let wrote = line-parts (number .result) (a .r .reply) (now (a .message)) (now (a .line)) _ _ (called .write-line .ensures) (start .pre) in (
-      refl,
-      wrote .0 ∙ ap (λ (t : ℕ). length (lineOf t (a .r .reply) (now (a .message)))) same,
-      c .refused .ensures,
-      wrote .1 ∙ ap (λ (t : ℕ). written (lineOf t (a .r .reply) (now (a .message))) (now (a .line))) same,
-    )
+    let wrote = line-parts (number .result) (a .r .reply) (now (a .message)) (now (a .line)) _ _ (called .write-line .ensures) (start .pre) in
+    let len = wrote .0 ∙ ap (λ (t : ℕ). length (lineOf t (a .r .reply) (now (a .message)))) same in
+    let line = wrote .1 ∙ ap (λ (t : ℕ). written (lineOf t (a .r .reply) (now (a .message))) (now (a .line))) same in
+    (refl, (len, (c .refused .ensures, line)))
 
 pub told-spec : {M : Type 1} → statement M
 told-spec =

@@ -17,6 +17,14 @@ use Rattle.reporting.proofs.at_frame.Tie as tie
 abbrev start : tie.After-stop-of → tie.Start
 start c = c .before .before .before .before .before .before
 
+-- back from the report to the tests
+abbrev tested : tie.After-report-kept → tie.After-stop-of
+tested c = c .before .before .before .before .before .before .before
+
+-- and from what is told to the report
+abbrev reported : tie.After-told → tie.After-report-kept
+reported c = c .before .before .before .before .before .before .before .before
+
 returns : tie.Need-returns
 returns c =
     let called = c .before .before in
@@ -24,8 +32,9 @@ returns c =
     let asked = refused .before .before in
     let a = start asked .args in
     let why = refused .stop .given .0 .0 in
+    let said = called .stopped .ensures in
     stop-line (now (a .line)) _ _ _ _ (a .p) (now (a .rows)) (now (a .message)) why
-    (called .stopped .ensures .0) (called .stopped .ensures .1) (called .stopped .ensures .2) (called .stopped .ensures .3)
+    (said .0) (said .1 .0) (said .1 .1 .0) (said .1 .1 .1)
     ∙ ap (printedOn (now (a .line)))
     (frame-stops (a .p) (now (a .frame)) (a .end) (now (a .rows)) (now (a .message)) why
     (sym (asked .stop-of .ensures) ∙ refused .stop .given .1))
@@ -37,7 +46,7 @@ fits-kept before after line same fits = omega arith
 told-requires : tie.Need-told-requires
 told-requires c κs =
     let kept = c .before .before .before .before .before .before .before in
-    let first = start (kept .before .before .before .before .before .before .before) in
+    let first = start (tested kept) in
     let a = first .args in
     fits-kept (now (a .message)) (kept .report-kept .last .1 .1 .1 .1 .0) (now (a .line)) (kept .report-kept .kept .1 .1 .1 .1 .0) (first .pre .1)
 
@@ -45,13 +54,14 @@ returns-2 : tie.Need-returns-2
 returns-2 c =
     let called = c .before .before in
     let moved = called .before .before .before in
-    let kept = moved .before .before .before .before .before in
+    let kept = reported called in
     let slot = kept .before .before .before .before in
-    let asked = slot .before .before .before in
+    let asked = tested kept in
     let a = start asked .args in
     let x = a .p .receiver in
+    let said = called .told .ensures in
     report-line (now (a .line)) _ _ _ _ x (moved .offset-after .result) _
-    (called .told .ensures .0) (called .told .ensures .1) (called .told .ensures .2) (called .told .ensures .3)
+    (said .0) (said .1 .0) (said .1 .1 .0) (said .1 .1 .1)
     ∙ ap₂ (λ (offset : ℕ) (r : Reported). printedOn (now (a .line)) (reportAct x offset r)) (moved .offset-after .ensures) (kept .report-kept .ensures)
     ∙ ap (printedOn (now (a .line)))
     (frame-reports (a .p) (now (a .frame)) (a .end) (now (a .rows)) (now (a .message))
@@ -72,7 +82,7 @@ at-frame-spec =
     (λ c κs. tt)
     (λ c κs. tt)
     told-requires
-    (λ c. c .before .before .before .before .before .before .before .before .before .before .report-kept .kept .1 .0)
-    (λ c. c .before .before .before .before .before .before .before .before .before .before .report-kept .kept .1 .1 .1 .1 .0)
+    (λ c. reported (c .before .before) .report-kept .kept .1 .0)
+    (λ c. reported (c .before .before) .report-kept .kept .1 .1 .1 .1 .0)
     (λ c. c .before .before .told .kept .1 .1 .1 .1 .0)
     returns-2)

@@ -14,7 +14,9 @@ begun message o = record { player = record { receiver = o .receiver; offset = 0 
 
 returns : tie.Need-returns
 unfolding beginOf
-returns c = ap₂ begun (c .before .before .before .clear .ensures) (c .before .before .before .before .before .before .before .«open» .ensures)
+returns c =
+    let cleared = c .before .before .before in
+    ap₂ begun (cleared .clear .ensures) (cleared .before .before .before .before .«open» .ensures)
 
 pub begin-spec : {M : Type 1} → statement M
 begin-spec =

@@ -77,14 +77,19 @@ returns-2 c =
     let part = called .before .before in
     let at = part .before .before in
     let a = start at .args in
+    let told = called .stopped .ensures in
     stop-line (now (a .line)) _ _ _ _ (a .p) (now (a .rows)) (now (a .message)) BadLength
-    (called .stopped .ensures .0) (called .stopped .ensures .1) (called .stopped .ensures .2) (called .stopped .ensures .3)
+    (told .0) (told .1 .0) (told .1 .1 .0) (told .1 .1 .1)
     ∙ ap (printedOn (now (a .line)))
     (parts (a .p) (now (a .recording)) (now (a .rows)) (now (a .message)) (sym (found at) ∙ part .enum-told2 .given .1))
 
+-- back from the last way out to the step at a frame
+abbrev stepped : tie.After-slice-known7 → tie.After-at-frame
+stepped c = c .before .before .before .before .before .before
+
 returns-3 : tie.Need-returns-3
 returns-3 c =
-    let called = c .before .before .before .before .before .before in
+    let called = stepped c in
     let frame = called .before .before .before .before .before .before in
     let at = frame .before .before in
     let a = start at .args in
@@ -110,7 +115,7 @@ step-spec =
     returns
     (λ c. c .before .before .stopped .kept .1 .1 .0)
     returns-2
-    (λ c. c .before .before .before .before .before .before .at-frame .kept .1 .1 .1 .0)
-    (λ c. c .before .before .before .before .before .before .at-frame .kept .1 .1 .1 .1 .0)
-    (λ c. c .before .before .before .before .before .before .at-frame .kept .1 .1 .1 .1 .1 .0)
+    (λ c. stepped c .at-frame .kept .1 .1 .1 .0)
+    (λ c. stepped c .at-frame .kept .1 .1 .1 .1 .0)
+    (λ c. stepped c .at-frame .kept .1 .1 .1 .1 .1 .0)
     returns-3)
