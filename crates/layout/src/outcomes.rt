@@ -17,7 +17,8 @@ ghost use Rattle.state.specs.State.{stateLen, saved};
 // After an opening or a send, with the bytes of its state.
 pub fn save_answer(answer: Answer, bytes: [u8; STATE_LEN], state: &mut [u8]) -> u32
     requires { ⌜ length (now state) ≡ stateLen ⌝ }
-    ensures { λ r. ⌜ (r ≡ answerNumber answer) × (now (state .exit) ≡ saved (taken answer) bytes (now (state .entry))) ⌝ }
+    ensures number { λ r. ⌜ r ≡ answerNumber answer ⌝ }
+    ensures state { λ _. ⌜ now (state .exit) ≡ saved (taken answer) bytes (now (state .entry)) ⌝ }
 {
     save(answer_taken(answer), bytes, state);
     answer_number(answer)
@@ -26,7 +27,8 @@ pub fn save_answer(answer: Answer, bytes: [u8; STATE_LEN], state: &mut [u8]) -> 
 // After a report, with the bytes of its state.
 pub fn save_reply(reply: Reply, bytes: [u8; STATE_LEN], state: &mut [u8]) -> u32
     requires { ⌜ length (now state) ≡ stateLen ⌝ }
-    ensures { λ r. ⌜ (r ≡ replyNumber reply) × (now (state .exit) ≡ saved (accepts reply) bytes (now (state .entry))) ⌝ }
+    ensures number { λ r. ⌜ r ≡ replyNumber reply ⌝ }
+    ensures state { λ _. ⌜ now (state .exit) ≡ saved (accepts reply) bytes (now (state .entry)) ⌝ }
 {
     save(reply_taken(reply), bytes, state);
     reply_number(reply)
