@@ -1,7 +1,6 @@
 // Both ends played through many calls, a line for each; reference/SCENARIOS.md says what is drawn and printed.
 mod events;
 mod faults;
-mod figures;
 mod openings;
 mod random;
 mod rows;
@@ -183,7 +182,6 @@ fn four(delay: u8, burst: u8, scattered: u8, x: &mut u64) {
 }
 
 fn main() {
-    figures::play();
     let mut x: u64 = 20261116;
     four(1, 1, 1, &mut x);
     four(3, 2, 2, &mut x);

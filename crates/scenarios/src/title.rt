@@ -1,4 +1,4 @@
-// The first line of the figures and of each scenario.
+// The first line of each scenario.
 use code::Settings;
 
 // A number, with a space before it.
@@ -22,13 +22,6 @@ fn kind(lent: bool) {
         return;
     }
     io::write_all(1, b" fresh");
-}
-
-// The figures' settings.
-pub(crate) fn figures(s: Settings) {
-    io::write_all(1, b"figures");
-    settings(s);
-    io::write_all(1, b"\n");
 }
 
 // A scenario's settings, its kind and the slot that it starts at.

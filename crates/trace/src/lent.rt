@@ -7,23 +7,20 @@ use ends::sender_at;
 use protocol::Receiver;
 use protocol::Sender;
 ghost use mathlib.Core.Path.{_≡_};
-ghost use mathlib.Core.Bool.{false};
 ghost use Rattle.trace.specs.Cuts.{endOf, openSenderCut, openReceiverCut, sendCut, heardCut, lossCut};
 
-// The state that a call starts from, and what is not lent of the rows and of the two things after them. Its line has sums of bytes, or
-// shows the bytes.
+// The state that a call starts from, and what is not lent of the rows and of the two things after them.
 pub struct Call {
     pub settings: Settings,
     pub due: u32,
     pub rows: usize,
     pub first: usize,
     pub second: usize,
-    pub shown: bool,
 }
 
 // A call with everything of exact length.
 pub fn exact(s: Settings, slot: u32) -> Call
-    ensures { λ r. ⌜ r ≡ record { settings = s; due = slot; rows = 1; first = 1; second = 1; shown = false } ⌝ }
+    ensures { λ r. ⌜ r ≡ record { settings = s; due = slot; rows = 1; first = 1; second = 1 } ⌝ }
 {
     Call {
         settings: s,
@@ -31,7 +28,6 @@ pub fn exact(s: Settings, slot: u32) -> Call
         rows: 1,
         first: 1,
         second: 1,
-        shown: false,
     }
 }
 
@@ -82,7 +78,7 @@ pub fn send(call: Call, rows: &mut [u8], message: &[u8], frame: &mut [u8]) -> Se
         &message[0..message_end],
         &mut frame[0..frame_end],
     );
-    print::sent(sent, call.shown, frame, rows);
+    print::sent(sent, frame, rows);
     sent.sender
 }
 
@@ -103,7 +99,7 @@ pub fn heard(call: Call, rows: &mut [u8], frame: &[u8], buffer: &mut [u8]) -> Re
         &frame[0..frame_end],
         &mut buffer[0..buffer_end],
     );
-    print::reported(b"frame", reported, call.shown, buffer, rows);
+    print::reported(b"frame", reported, buffer, rows);
     reported.receiver
 }
 
@@ -118,6 +114,6 @@ pub fn loss(call: Call, rows: &mut [u8], buffer: &mut [u8]) -> Receiver
     let rows_end = end(rows.len(), call.rows);
     let buffer_end = end(buffer.len(), call.first);
     let reported = receiver::loss(x, &mut rows[0..rows_end], &mut buffer[0..buffer_end]);
-    print::reported(b"loss", reported, call.shown, buffer, rows);
+    print::reported(b"loss", reported, buffer, rows);
     reported.receiver
 }

@@ -83,16 +83,6 @@ fn sum_of(bytes: &[u8]) {
     number(sum(bytes, count));
 }
 
-// All bytes from a place on, but for the last one.
-fn bytes_from(bytes: &[u8], first: usize) {
-    let count = crate::lent::end(bytes.len(), 1);
-    let mut q = first;
-    while q < count {
-        number(wide(bytes[q]));
-        q += 1;
-    }
-}
-
 // The end of a line.
 fn line_end() {
     io::write_all(1, b"\n");
@@ -120,19 +110,8 @@ pub(crate) fn opened_receiver(opened: receiver::Opened, rows: &[u8]) {
     line_end();
 }
 
-// The line of a send that shows the frame's body.
-fn body(frame: &[u8]) {
-    io::write_all(1, b"body");
-    bytes_from(frame, 14);
-    line_end();
-}
-
 // The line of a send.
-pub(crate) fn sent(sent: sender::Sent, shown: bool, frame: &[u8], rows: &[u8]) {
-    if shown {
-        body(frame);
-        return;
-    }
+pub(crate) fn sent(sent: sender::Sent, frame: &[u8], rows: &[u8]) {
     let a = sent.answer;
     let x = sent.sender;
     io::write_all(1, b"send");
@@ -143,27 +122,9 @@ pub(crate) fn sent(sent: sender::Sent, shown: bool, frame: &[u8], rows: &[u8]) {
     line_end();
 }
 
-// The line of a report that shows the message buffer.
-fn told(r: Reply, buffer: &[u8]) {
-    io::write_all(1, b"told");
-    reply(r);
-    bytes_from(buffer, 0);
-    line_end();
-}
-
 // The line of a report, from its first word on.
-pub(crate) fn reported(
-    word: &[u8],
-    r: receiver::Reported,
-    shown: bool,
-    buffer: &[u8],
-    rows: &[u8],
-) {
+pub(crate) fn reported(word: &[u8], r: receiver::Reported, buffer: &[u8], rows: &[u8]) {
     let a = r.reply;
-    if shown {
-        told(a, buffer);
-        return;
-    }
     let x = r.receiver;
     io::write_all(1, word);
     reply(a);

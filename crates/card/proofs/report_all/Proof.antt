@@ -4,24 +4,27 @@ use mathlib.Core.Path.{_≡_, refl}
 use native.Mathlib.Omega.{arith}
 use Prim.Native.Nat.{_-_, _≤_, zero-le}
 use lib.ListN.{length}
-use Rattle.scenarios.proofs.figures.send_all.Statement.{statement}
-use Rattle.scenarios.proofs.figures.send_all.Tie as tie
+use Rattle.card.proofs.report_all.Statement.{statement}
+use Rattle.card.proofs.report_all.Tie as tie
 
 abbrev Inv-loop : tie.InvT-loop
-Inv-loop rows₀ frames₀ x₀ slot₀ rows frames x slot =
-    (slot ≤ 6) × (length rows ≡ length rows₀) × (length frames ≡ length frames₀)
+Inv-loop lanes lost rows₀ frames message₀ x₀ slot₀ rows message x slot =
+    (slot ≤ 6) × (length rows ≡ length rows₀) × (length message ≡ length message₀)
 
 abbrev μ-loop : tie.MeasureT-loop
-μ-loop rows₀ frames₀ x₀ slot₀ rows frames x slot = 6 - slot
+μ-loop lanes lost rows₀ frames message₀ x₀ slot₀ rows message x slot = 6 - slot
 
-pub send-all-spec : {M : Type 1} → statement M
-send-all-spec =
+pub report-all-spec : {M : Type 1} → statement M
+report-all-spec =
     tie.close
     (tie.spec
     Inv-loop
     μ-loop
     (λ c κs. search needs)
+    (λ c κs. search needs)
     (λ c. (zero-le, refl, refl))
+    (λ c. omega arith)
+    (λ c. omega arith)
     (λ c. omega arith)
     (λ c. omega arith)
     (λ c. omega arith)
@@ -32,5 +35,5 @@ send-all-spec =
     (λ c. omega arith)
     (λ c. (omega arith, omega arith, omega arith))
     (λ c. omega arith)
-    (λ c. omega arith)
+    (λ c. c .before .loop .inv .2)
     (λ c. search needs))
