@@ -10,9 +10,8 @@ use lib.Dec.{ltb}
 use Rattle.galois.specs.Bounded.{any}
 use Rattle.code.specs.declared.settings.Settings.{Settings}
 use Rattle.code.specs.Settings.{kOf}
-use Rattle.protocol.specs.declared.Reply.{Reply}
 use Rattle.protocol.specs.declared.Reply.the-variants as reply
-use Rattle.protocol.specs.Verdict.{symbolSaid, isClash, isLost, someCodeword, noneFits, twoDiffer, verdict}
+use Rattle.protocol.specs.Verdict.{symbolSaid, isClash, isLost, someCodeword, byTests, noneFits, twoDiffer, verdict}
 use Rattle.symbols.specs.Decision.{mark, lanesMark, symbolsMark}
 
 abbrev pub larger : ℕ → ℕ → ℕ
@@ -59,22 +58,19 @@ symbols-more s rows due t i =
 
 -- ---- the mark of all symbols gives the verdict
 
-abbrev replyBy : Bool → Bool → Reply
-replyBy clash lost = cond clash reply.Clash (cond lost reply.Lost reply.Whole)
-
-by-whole : (c l : Bool) → mark c l ≡ 0 → reply.Whole ≡ replyBy c l
+by-whole : (c l : Bool) → mark c l ≡ 0 → reply.Whole ≡ byTests c l
 unfolding mark
 by-whole true l e = absurd (omega arith)
 by-whole false true e = absurd (omega arith)
 by-whole false false e = refl
 
-by-lost : (c l : Bool) → mark c l ≡ 1 → reply.Lost ≡ replyBy c l
+by-lost : (c l : Bool) → mark c l ≡ 1 → reply.Lost ≡ byTests c l
 unfolding mark
 by-lost true l e = absurd (omega arith)
 by-lost false true e = refl
 by-lost false false e = absurd (omega arith)
 
-by-clash : (c l : Bool) → (mark c l ≡ 0 → ⊥) → (mark c l ≡ 1 → ⊥) → reply.Clash ≡ replyBy c l
+by-clash : (c l : Bool) → (mark c l ≡ 0 → ⊥) → (mark c l ≡ 1 → ⊥) → reply.Clash ≡ byTests c l
 unfolding mark
 by-clash true l some more = refl
 by-clash false true some more = absurd (more refl)

@@ -16,7 +16,7 @@ use Rattle.protocol.specs.Verdict.{rowAt, reportedAt, arrived, someCodeword}
 use Rattle.protocol.specs.Calls.{openSenderOf, sendOf, receivedZeros, openReceiverOf, messageDue}
 use Rattle.protocol.specs.TwoLists.{sends}
 use Rattle.protocol.specs.Histories.{lostAt}
-use Rattle.protocol.proofs.QuickVerdict.{quickSymbol, verdictBy, bufferBy, quickReply, quickMoved, quickReport, quickReports, small, smallFrames}
+use Rattle.protocol.proofs.QuickVerdict.{quickSymbol, quickReply, quickMoved, quickReport, quickReports, small, smallFrames}
 
 unfoldable pub computing : Unit {0}
 unfolding count table arithmetic delayOf kOf nOf dOf all accepted
@@ -26,5 +26,5 @@ unfolding count table arithmetic delayOf kOf nOf dOf all accepted
     lastSlot messageLen bodyLen frameLen senderLen rowLen rowCount receiverLen putRow joined
     mark five slotBytes header remembered sentSymbol bodyOf frameOf agree openCause sendCause lossCause frameCauseOf
     rowAt reportedAt arrived someCodeword openSenderOf sendOf receivedZeros openReceiverOf messageDue sends lostAt
-    quickSymbol verdictBy bufferBy quickReply quickMoved quickReport quickReports small smallFrames
+    quickSymbol quickReply quickMoved quickReport quickReports small smallFrames
 computing = tt

@@ -2,18 +2,14 @@
 use mathlib.Core.Path.{_≡_, refl, sym, _∙_}
 use mathlib.Core.List.{List, _∷_}
 use Prim.Native.Nat.{ℕ}
-use lib.ListN.{length, drop, replicate, length-replicate}
-use Rattle.galois.proofs.ByIndex.{length-table}
-use Rattle.code.specs.declared.settings.Settings.{Settings}
+use lib.ListN.{length, drop, replicate}
 use Rattle.protocol.specs.declared.Receiver.{Receiver}
-use Rattle.protocol.specs.declared.Reply.{Reply}
-use Rattle.protocol.specs.declared.Reply.the-variants.{Refused, NoneYet, Whole, Lost, Clash}
 use Rattle.protocol.specs.Lengths.{messageLen, rowLen}
-use Rattle.protocol.specs.Verdict.{sharedBytes, bufferOf}
 use Rattle.protocol.specs.declared.Answer.{Answer}
 use Rattle.protocol.specs.declared.Answer.the-variants as answer
 use Rattle.protocol.specs.Causes.{lossCause, frameCause}
 use Rattle.protocol.specs.Calls.{movedOn, lossOf, heardOf}
+use Rattle.protocol.proofs.VerdictMeaning.{buffer-length}
 use Rattle.protocol.proofs.ReportCauses.{loss-open, frame-open}
 use Rattle.protocol.proofs.ReportSteps.{loss-moves, loss-stays, heard-moves, heard-stays}
 use Rattle.progress.specs.declared.Player.{Player}
@@ -22,14 +18,6 @@ use Rattle.steps.specs.Steps.{endAct, actOf}
 use Rattle.steps.proofs.Acts.{frameAt, every-act}
 
 -- the message buffer of an accepted report
-buffer-length : (s : Settings) (rows : List ℕ) (due t : ℕ) (r : Reply) → length (bufferOf s rows due t r) ≡ messageLen s
-unfolding bufferOf sharedBytes
-buffer-length s rows due t (Refused c) = length-replicate (messageLen s) 0
-buffer-length s rows due t NoneYet = length-replicate (messageLen s) 0
-buffer-length s rows due t Whole = length-table (messageLen s) _
-buffer-length s rows due t Lost = length-replicate (messageLen s) 0
-buffer-length s rows due t Clash = length-replicate (messageLen s) 0
-
 moved-length : (x : Receiver) (row rows : List ℕ) → length (movedOn x row rows .message) ≡ messageLen (x .settings)
 unfolding movedOn
 moved-length x row rows = buffer-length (x .settings) _ _ _ _

@@ -13,7 +13,6 @@ use Rattle.galois.proofs.Cases.{and-left, and-right, both-pass}
 use Rattle.code.specs.declared.settings.Settings.{Settings}
 use Rattle.code.specs.Fitting.{Arrived}
 use Rattle.code.specs.Settings.{accepted, delayOf, kOf, nOf}
-use Rattle.galois.specs.Table.{table}
 use Rattle.code.proofs.Shape.{shape}
 use Rattle.galois.proofs.ByIndex.{table-equal}
 use Rattle.elimination.specs.declared.lane.Symbol.{Symbol}
@@ -25,8 +24,8 @@ use Rattle.protocol.specs.declared.Reply.the-variants as reply
 use Rattle.protocol.specs.Lengths.{messageLen, rowLen, rowCount}
 use Rattle.protocol.specs.States.{reportedOn}
 use Rattle.protocol.specs.Rows.{putRow}
-use Rattle.protocol.specs.Verdict.{arrived, symbolSaid, isClash, isLost, wholeByte, someCodeword, noneFits, twoDiffer}
-use Rattle.protocol.specs.Verdict.{verdict, sharedBytes, bufferOf}
+use Rattle.protocol.specs.Verdict.{arrived, symbolSaid, isClash, isLost, wholeByte, someCodeword}
+use Rattle.protocol.specs.Verdict.{byTests, verdictBy, bufferBy, verdict, bufferOf}
 use Rattle.protocol.specs.declared.Answer.{Answer}
 use Rattle.protocol.specs.declared.Answer.the-variants as answer
 use Rattle.protocol.specs.Causes.{lossCause, frameCause}
@@ -41,20 +40,6 @@ unfoldable pub quickSymbol : Settings → List ℕ → ℕ → ℕ → ℕ → �
 quickSymbol s rows due t i v =
     let a : Arrived = arrived s rows due t i v in
     symbolOf s (eliminated s (a .known)) (a .known) (a .byte) i
-
--- the verdict on a message whose symbol i of lane v is told as f i v
-unfoldable pub verdictBy : Settings → (ℕ → ℕ → Symbol) → Reply
-verdictBy s f =
-    cond (someCodeword s (λ i v. isClash (f i v))) reply.Clash
-    (cond (someCodeword s (λ i v. isLost (f i v))) reply.Lost reply.Whole)
-
--- the message buffer of such a message, after this reply
-unfoldable pub bufferBy : Settings → (ℕ → ℕ → Symbol) → Reply → List ℕ
-bufferBy s f (reply.Refused c) = replicate (messageLen s) 0
-bufferBy s f reply.NoneYet = replicate (messageLen s) 0
-bufferBy s f reply.Whole = table (messageLen s) (λ q. wholeByte (f (q / s .lanes) (q % s .lanes)))
-bufferBy s f reply.Lost = replicate (messageLen s) 0
-bufferBy s f reply.Clash = replicate (messageLen s) 0
 
 -- the reply of the report that makes these the rows, with slot d due before it
 unfoldable pub quickReply : Settings → List ℕ → ℕ → Reply
@@ -159,59 +144,44 @@ unfolding any
 any-equal zero f g e = refl
 any-equal (suc m) f g e = ap₂ _||_ (any-equal m f g (λ i h. e i (le-step h))) (e m (lt-suc-self m))
 
-module _ (s : Settings) (ok : T (accepted s)) where
-  -- symbols told alike, below k
-  abbrev Alike : (ℕ → ℕ → Symbol) → (ℕ → ℕ → Symbol) → Type 0
-  Alike f g = (i v : ℕ) → i < kOf s → f i v ≡ g i v
+module _ (s : Settings) (ok : T (accepted s)) (rows : List ℕ) (bytes : T (small rows)) (due t : ℕ) where
+  -- what the fitting words say of each symbol, and what elimination says
+  abbrev told : ℕ → ℕ → Symbol
+  told = symbolSaid s rows due t
 
-  -- pass a test at some codeword together
-  some-alike : (test : Symbol → Bool) (f g : ℕ → ℕ → Symbol) → Alike f g
-      → someCodeword s (λ i v. test (f i v)) ≡ someCodeword s (λ i v. test (g i v))
+  abbrev quickly : ℕ → ℕ → Symbol
+  quickly = quickSymbol s rows due t
+
+  -- both are the same
+  pub quick-symbol : (i v : ℕ) → i < kOf s → told i v ≡ quickly i v
+  unfolding symbolSaid quickSymbol arrived nOf
+  quick-symbol i v hi =
+      sym
+      (symbol-decided s ok (arrived s rows due t i v) (λ p. small-at rows bytes _) i (omega arith))
+
+  -- so both pass a test at some codeword together
+  some-alike : (test : Symbol → Bool) → someCodeword s (λ i v. test (told i v)) ≡ someCodeword s (λ i v. test (quickly i v))
   unfolding someCodeword
-  some-alike test f g e =
-      any-equal (kOf s) (λ i. any (s .lanes) (λ v. test (f i v))) (λ i. any (s .lanes) (λ v. test (g i v)))
-      (λ i hi. any-equal (s .lanes) (λ v. test (f i v)) (λ v. test (g i v)) (λ v hv. ap test (e i v hi)))
+  some-alike test =
+      any-equal (kOf s) (λ i. any (s .lanes) (λ v. test (told i v))) (λ i. any (s .lanes) (λ v. test (quickly i v)))
+      (λ i hi. any-equal (s .lanes) (λ v. test (told i v)) (λ v. test (quickly i v)) (λ v hv. ap test (quick-symbol i v hi)))
 
-  -- give the same verdict
-  verdict-alike : (f g : ℕ → ℕ → Symbol) → Alike f g → verdictBy s f ≡ verdictBy s g
-  unfolding verdictBy
-  verdict-alike f g e =
-      ap₂ (λ (a b : Bool). cond a reply.Clash (cond b reply.Lost reply.Whole)) (some-alike isClash f g e)
-      (some-alike isLost f g e)
+  -- and the verdict is the one that elimination gives
+  pub quick-verdict : verdict s rows due t ≡ verdictBy s quickly
+  unfolding verdict
+  quick-verdict = ap₂ byTests (some-alike isClash) (some-alike isLost)
 
-  -- and the same message buffer
-  buffer-alike : (f g : ℕ → ℕ → Symbol) → Alike f g → (r : Reply) → bufferBy s f r ≡ bufferBy s g r
-  unfolding bufferBy messageLen
-  buffer-alike f g e (reply.Refused c) = refl
-  buffer-alike f g e reply.NoneYet = refl
-  buffer-alike f g e reply.Whole =
-      table-equal (messageLen s) (λ q. wholeByte (f (q / s .lanes) (q % s .lanes)))
-      (λ q. wholeByte (g (q / s .lanes) (q % s .lanes)))
-      (λ q hq. ap wholeByte (e (q / s .lanes) (q % s .lanes) (div-lt-iff-lt-mul (shape s ok .lanes-positive) .1 hq)))
-  buffer-alike f g e reply.Lost = refl
-  buffer-alike f g e reply.Clash = refl
-
-  module _ (rows : List ℕ) (bytes : T (small rows)) (due t : ℕ) where
-    -- elimination says of each symbol what the fitting words say
-    pub quick-symbol : Alike (symbolSaid s rows due t) (quickSymbol s rows due t)
-    unfolding symbolSaid quickSymbol arrived nOf
-    quick-symbol i v hi =
-        sym
-        (symbol-decided s ok (arrived s rows due t i v) (λ p. small-at rows bytes _) i (omega arith))
-
-    -- so the verdict is the one that elimination gives
-    pub quick-verdict : verdict s rows due t ≡ verdictBy s (quickSymbol s rows due t)
-    unfolding verdict verdictBy noneFits twoDiffer
-    quick-verdict = verdict-alike (symbolSaid s rows due t) (quickSymbol s rows due t) quick-symbol
-
-    -- and so is the message buffer
-    pub quick-buffer : (r : Reply) → bufferOf s rows due t r ≡ bufferBy s (quickSymbol s rows due t) r
-    unfolding bufferOf bufferBy sharedBytes
-    quick-buffer (reply.Refused c) = refl
-    quick-buffer reply.NoneYet = refl
-    quick-buffer reply.Whole = buffer-alike (symbolSaid s rows due t) (quickSymbol s rows due t) quick-symbol reply.Whole
-    quick-buffer reply.Lost = refl
-    quick-buffer reply.Clash = refl
+  -- and so is the message buffer
+  pub quick-buffer : (r : Reply) → bufferOf s rows due t r ≡ bufferBy s quickly r
+  unfolding bufferOf messageLen
+  quick-buffer (reply.Refused c) = refl
+  quick-buffer reply.NoneYet = refl
+  quick-buffer reply.Whole =
+      table-equal (messageLen s) (λ q. wholeByte (told (q / s .lanes) (q % s .lanes))) (λ q. wholeByte (quickly (q / s .lanes) (q % s .lanes)))
+      (λ q hq.
+      ap wholeByte (quick-symbol (q / s .lanes) (q % s .lanes) (div-lt-iff-lt-mul (shape s ok .lanes-positive) .1 hq)))
+  quick-buffer reply.Lost = refl
+  quick-buffer reply.Clash = refl
 
 -- the reply of a report
 quick-reply : (s : Settings) → T (accepted s) → (now : List ℕ) → T (small now) → (d : ℕ)

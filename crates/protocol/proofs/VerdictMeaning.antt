@@ -1,6 +1,6 @@
 -- What the receiver's verdict on message t means, in the words of specs/Meaning.antt.
 use mathlib.Core.Path.{_≡_, refl, sym, ap, ap₂, _∙_, subst, subst⁻¹}
-use mathlib.Core.Bool.{Bool, true, false, cond}
+use mathlib.Core.Bool.{Bool, true, false}
 use mathlib.Core.Logic.{_↔_}
 use mathlib.Core.List.{List}
 use Prim.Native.Nat.{ℕ, _+_, _*_, _/_, _%_, _<_}
@@ -22,14 +22,12 @@ use Rattle.elimination.proofs.ValueLaws.{said-clash, clash-said, said-lost, los
 use Rattle.protocol.specs.declared.Reply.{Reply}
 use Rattle.protocol.specs.declared.Reply.the-variants as reply
 use Rattle.protocol.specs.Lengths.{messageLen}
-use Rattle.protocol.specs.Verdict.{arrived, symbolSaid, isClash, isLost, wholeByte, someCodeword, noneFits, twoDiffer, verdict, sharedBytes, bufferOf}
+use Rattle.protocol.specs.Verdict.{arrived, symbolSaid, isClash, isLost, wholeByte, someCodeword, byTests}
+use Rattle.protocol.specs.Verdict.{noneFits, twoDiffer, verdict, sharedBytes, bufferOf}
 use Rattle.protocol.specs.Numbers.{replyNumber}
 use Rattle.protocol.specs.Meaning.{Fitting, SomeClash, SomeLost, Share, AllShare}
 
 -- ---- one of three, by two tests
-
-abbrev byTests : Bool → Bool → Reply
-byTests a b = cond a reply.Clash (cond b reply.Lost reply.Whole)
 
 -- the first test passes; else the second; else neither
 first : (a b : Bool) → (byTests a b ≡ reply.Clash) ↔ T a
@@ -47,38 +45,31 @@ third true b = (λ e. absurd (let z : _≡_ {A = ℕ} 0 1 = cc in omega arith), 
 third false true = (λ e. absurd (let z : _≡_ {A = ℕ} 0 1 = cc in omega arith), λ x. absurd (x .1 tt))
 third false false = (λ e. ((λ h. h), λ h. h), λ x. refl)
 
+-- ---- one symbol
+
+symbol-clash : (x : Symbol) → T (isClash x) → x ≡ symbol.Clash
+symbol-clash symbol.Clash h = refl
+symbol-clash symbol.Lost h = absurd h
+symbol-clash (symbol.Whole b) h = absurd h
+
+symbol-lost : (x : Symbol) → T (isLost x) → x ≡ symbol.Lost
+symbol-lost symbol.Clash h = absurd h
+symbol-lost symbol.Lost h = refl
+symbol-lost (symbol.Whole b) h = absurd h
+
+-- a symbol that is neither clash nor lost is whole
+symbol-whole : (x : Symbol) → (T (isClash x) → ⊥) → (T (isLost x) → ⊥) → x ≡ symbol.Whole (wholeByte x)
+symbol-whole symbol.Clash c l = absurd (c tt)
+symbol-whole symbol.Lost c l = absurd (l tt)
+symbol-whole (symbol.Whole b) c l = refl
+
 module _ (s : Settings) (rows : List ℕ) (due t : ℕ) where
-  -- what arrived of the codewords that carry the message
+  -- what arrived of the codewords that carry the message, and what the fitting words say of its symbols
   abbrev what : ℕ → ℕ → Arrived
   what = arrived s rows due t
 
-  -- ---- one codeword
-
-  symbol-clash : (i v : ℕ) → T (isClash (symbolSaid s rows due t i v)) → symbolSaid s rows due t i v ≡ symbol.Clash
-  symbol-clash i v h = go (symbolSaid s rows due t i v) refl h
-    where
-      go : (x : Symbol) → symbolSaid s rows due t i v ≡ x → T (isClash x) → x ≡ symbol.Clash
-      go symbol.Clash e h = refl
-      go symbol.Lost e h = absurd h
-      go (symbol.Whole b) e h = absurd h
-
-  symbol-lost : (i v : ℕ) → T (isLost (symbolSaid s rows due t i v)) → symbolSaid s rows due t i v ≡ symbol.Lost
-  symbol-lost i v h = go (symbolSaid s rows due t i v) refl h
-    where
-      go : (x : Symbol) → symbolSaid s rows due t i v ≡ x → T (isLost x) → x ≡ symbol.Lost
-      go symbol.Clash e h = absurd h
-      go symbol.Lost e h = refl
-      go (symbol.Whole b) e h = absurd h
-
-  -- a symbol that is neither clash nor lost is whole
-  symbol-whole : (i v : ℕ) → (T (isClash (symbolSaid s rows due t i v)) → ⊥) → (T (isLost (symbolSaid s rows due t i v)) → ⊥)
-      → symbolSaid s rows due t i v ≡ symbol.Whole (wholeByte (symbolSaid s rows due t i v))
-  symbol-whole i v c l = go (symbolSaid s rows due t i v) c l
-    where
-      go : (x : Symbol) → (T (isClash x) → ⊥) → (T (isLost x) → ⊥) → x ≡ symbol.Whole (wholeByte x)
-      go symbol.Clash c l = absurd (c tt)
-      go symbol.Lost c l = absurd (l tt)
-      go (symbol.Whole b) c l = refl
+  abbrev told : ℕ → ℕ → Symbol
+  told = symbolSaid s rows due t
 
   -- ---- all codewords
 
@@ -98,27 +89,27 @@ module _ (s : Settings) (rows : List ℕ) (due t : ℕ) where
   clash-means : T (noneFits s rows due t) → SomeClash s what
   unfolding noneFits symbolSaid
   clash-means h =
-      let x = some-at (λ i v. isClash (symbolSaid s rows due t i v)) h in
+      let x = some-at (λ i v. isClash (told i v)) h in
       record {
         symbol = x .0;
         lane = x .1;
         symbol-below = x .2;
         lane-below = x .3;
-        none-fits = λ u f. clash-said s (arrived s rows due t (x .0) (x .1)) (x .0) (symbol-clash (x .0) (x .1) (x .4)) u (f .0) (f .1);
+        none-fits = λ u f. clash-said s (what (x .0) (x .1)) (x .0) (symbol-clash (told (x .0) (x .1)) (x .4)) u (f .0) (f .1);
       }
 
   means-clash : SomeClash s what → T (noneFits s rows due t)
   unfolding noneFits symbolSaid
   means-clash c =
-      at-some (λ i v. isClash (symbolSaid s rows due t i v)) (c .symbol) (c .lane) (c .symbol-below) (c .lane-below)
+      at-some (λ i v. isClash (told i v)) (c .symbol) (c .lane) (c .symbol-below) (c .lane-below)
       (subst⁻¹ (λ (x : Symbol). T (isClash x))
-      (said-clash s (arrived s rows due t (c .symbol) (c .lane)) (c .symbol) (λ u b f. c .none-fits u (b, f))) tt)
+      (said-clash s (what (c .symbol) (c .lane)) (c .symbol) (λ u b f. c .none-fits u (b, f))) tt)
 
   lost-means : T (twoDiffer s rows due t) → SomeLost s what
   unfolding twoDiffer symbolSaid
   lost-means h =
-      let x = some-at (λ i v. isLost (symbolSaid s rows due t i v)) h in
-      let y = lost-said s (arrived s rows due t (x .0) (x .1)) (x .0) (symbol-lost (x .0) (x .1) (x .4)) in
+      let x = some-at (λ i v. isLost (told i v)) h in
+      let y = lost-said s (what (x .0) (x .1)) (x .0) (symbol-lost (told (x .0) (x .1)) (x .4)) in
       record {
         symbol = x .0;
         lane = x .1;
@@ -134,21 +125,21 @@ module _ (s : Settings) (rows : List ℕ) (due t : ℕ) where
   means-lost : SomeLost s what → T (twoDiffer s rows due t)
   unfolding twoDiffer symbolSaid
   means-lost c =
-      at-some (λ i v. isLost (symbolSaid s rows due t i v)) (c .symbol) (c .lane) (c .symbol-below) (c .lane-below)
+      at-some (λ i v. isLost (told i v)) (c .symbol) (c .lane) (c .symbol-below) (c .lane-below)
       (subst⁻¹ (λ (x : Symbol). T (isLost x))
-      (said-lost s (arrived s rows due t (c .symbol) (c .lane)) (c .symbol) (c .one) (c .other) (c .one-fits .0) (c .other-fits .0)
+      (said-lost s (what (c .symbol) (c .lane)) (c .symbol) (c .one) (c .other) (c .one-fits .0) (c .other-fits .0)
       (c .one-fits .1) (c .other-fits .1) (c .they-differ)) tt)
 
   -- ---- the verdict
 
   -- where neither passes, the fitting words share each symbol's byte
   neither-shares : (T (noneFits s rows due t) → ⊥) → (T (twoDiffer s rows due t) → ⊥)
-      → AllShare s what (λ i v. wholeByte (symbolSaid s rows due t i v))
+      → AllShare s what (λ i v. wholeByte (told i v))
   unfolding noneFits twoDiffer symbolSaid
   neither-shares c l i v hi hv =
-      let x = whole-said s (arrived s rows due t i v) i (wholeByte (symbolSaid s rows due t i v))
-      (symbol-whole i v (λ h. c (at-some (λ i v. isClash (symbolSaid s rows due t i v)) i v hi hv h))
-      (λ h. l (at-some (λ i v. isLost (symbolSaid s rows due t i v)) i v hi hv h))) in
+      let x = whole-said s (what i v) i (wholeByte (told i v))
+      (symbol-whole (told i v) (λ h. c (at-some (λ i v. isClash (told i v)) i v hi hv h))
+      (λ h. l (at-some (λ i v. isLost (told i v)) i v hi hv h))) in
       record { word = x .0 .0; is-such = (x .0 .1, x .0 .2); all-have = λ u f. x .1 u (f .0) (f .1) }
 
   -- where they share bytes there is neither
@@ -171,12 +162,12 @@ module _ (s : Settings) (rows : List ℕ) (due t : ℕ) where
 
   -- clash, exactly if some codeword that carries the message has no word that fits what arrived
   pub verdict-clash : (verdict s rows due t ≡ reply.Clash) ↔ SomeClash s what
-  unfolding verdict
+  unfolding verdict noneFits twoDiffer
   verdict-clash = (λ e. clash-means (first none two .0 e), λ c. first none two .1 (means-clash c))
 
   -- else lost, exactly if two fitting words differ in it
   pub verdict-lost : (verdict s rows due t ≡ reply.Lost) ↔ ((SomeClash s what → ⊥) × SomeLost s what)
-  unfolding verdict
+  unfolding verdict noneFits twoDiffer
   verdict-lost = (
     λ e. let x = second none two .0 e in ((λ c. x .0 (means-clash c)), lost-means (x .1)),
     λ x. second none two .1 ((λ h. x .0 (clash-means h)), means-lost (x .1)),
@@ -184,7 +175,7 @@ module _ (s : Settings) (rows : List ℕ) (due t : ℕ) where
 
   -- else whole
   pub verdict-else : (verdict s rows due t ≡ reply.Whole) ↔ ((SomeClash s what → ⊥) × (SomeLost s what → ⊥))
-  unfolding verdict
+  unfolding verdict noneFits twoDiffer
   verdict-else = (
     λ e. let x = third none two .0 e in ((λ c. x .0 (means-clash c)), λ l. x .1 (means-lost l)),
     λ x. third none two .1 ((λ h. x .0 (clash-means h)), λ h. x .1 (lost-means h)),
@@ -196,17 +187,17 @@ module _ (s : Settings) (rows : List ℕ) (due t : ℕ) where
 
   -- a shared byte, where it stands in the message
   pub shared-byte : (i v : ℕ) → i < kOf s → v < s .lanes
-      → getD (sharedBytes s rows due t) (i * s .lanes + v) 0 ≡ wholeByte (symbolSaid s rows due t i v)
+      → getD (sharedBytes s rows due t) (i * s .lanes + v) 0 ≡ wholeByte (told i v)
   unfolding sharedBytes messageLen
   shared-byte i v hi hv =
-      getD-table (messageLen s) (λ q. wholeByte (symbolSaid s rows due t (q / s .lanes) (q % s .lanes))) (i * s .lanes + v) 0
+      getD-table (messageLen s) (λ q. wholeByte (told (q / s .lanes) (q % s .lanes))) (i * s .lanes + v) 0
       (digits-lt hi hv)
-      ∙ ap₂ (λ (a b : ℕ). wholeByte (symbolSaid s rows due t a b)) (digits-div i hv) (digits-mod i hv)
+      ∙ ap₂ (λ (a b : ℕ). wholeByte (told a b)) (digits-div i hv) (digits-mod i hv)
 
   -- and then the message buffer holds them
   pub whole-bytes : verdict s rows due t ≡ reply.Whole
       → AllShare s what (λ i v. getD (bufferOf s rows due t (verdict s rows due t)) (i * s .lanes + v) 0)
-  unfolding bufferOf verdict
+  unfolding bufferOf sharedBytes verdict noneFits twoDiffer
   whole-bytes e i v hi hv =
       subst⁻¹ (λ (b : ℕ). Share s (Fitting s (what i v)) i b)
       (ap (λ (x : Reply). getD (bufferOf s rows due t x) (i * s .lanes + v) 0) e ∙ shared-byte i v hi hv)
@@ -225,7 +216,7 @@ module _ (s : Settings) (rows : List ℕ) (due t : ℕ) where
 
   -- and it has its length
   pub buffer-length : (r : Reply) → length (bufferOf s rows due t r) ≡ messageLen s
-  unfolding bufferOf sharedBytes
+  unfolding bufferOf
   buffer-length (reply.Refused c) = length-replicate (messageLen s) 0
   buffer-length reply.NoneYet = length-replicate (messageLen s) 0
   buffer-length reply.Whole = length-table (messageLen s) _

@@ -51,33 +51,58 @@ wholeByte symbol.Clash = 0
 wholeByte symbol.Lost = 0
 wholeByte (symbol.Whole b) = b
 
+-- ---- a message whose symbol i of lane v is told as f i v
+
 -- the test passes at some codeword that carries the message: symbol i of lane v
 unfoldable pub someCodeword : Settings → (ℕ → ℕ → Bool) → Bool
 someCodeword s f = any (kOf s) (λ i. any (s .lanes) (λ v. f i v))
 
+-- some symbol is a clash
+abbrev pub someClash : Settings → (ℕ → ℕ → Symbol) → Bool
+someClash s f = someCodeword s (λ i v. isClash (f i v))
+
+-- some symbol is lost
+abbrev pub someLost : Settings → (ℕ → ℕ → Symbol) → Bool
+someLost s f = someCodeword s (λ i v. isLost (f i v))
+
+-- by two tests: a clash if the first passes, else lost if the second does, else whole
+abbrev pub byTests : Bool → Bool → Reply
+byTests clash lost = cond clash reply.Clash (cond lost reply.Lost reply.Whole)
+
+-- the verdict on it
+abbrev pub verdictBy : Settings → (ℕ → ℕ → Symbol) → Reply
+verdictBy s f = byTests (someClash s f) (someLost s f)
+
+-- its bytes, lane by lane of one symbol after another
+abbrev pub bytesBy : Settings → (ℕ → ℕ → Symbol) → List ℕ
+bytesBy s f = table (messageLen s) (λ q. wholeByte (f (q / s .lanes) (q % s .lanes)))
+
+-- the message buffer after a reply: its bytes when whole, else zeros
+abbrev pub bufferBy : Settings → (ℕ → ℕ → Symbol) → Reply → List ℕ
+bufferBy s f (reply.Refused c) = replicate (messageLen s) 0
+bufferBy s f reply.NoneYet = replicate (messageLen s) 0
+bufferBy s f reply.Whole = bytesBy s f
+bufferBy s f reply.Lost = replicate (messageLen s) 0
+bufferBy s f reply.Clash = replicate (messageLen s) 0
+
+-- ---- message t, once the slots below due are reported
+
 -- some codeword that carries message t has no word that fits
 unfoldable pub noneFits : Settings → List ℕ → ℕ → ℕ → Bool
-noneFits s rows due t = someCodeword s (λ i v. isClash (symbolSaid s rows due t i v))
+noneFits s rows due t = someClash s (symbolSaid s rows due t)
 
 -- two fitting words of some codeword differ in message t
 unfoldable pub twoDiffer : Settings → List ℕ → ℕ → ℕ → Bool
-twoDiffer s rows due t = someCodeword s (λ i v. isLost (symbolSaid s rows due t i v))
+twoDiffer s rows due t = someLost s (symbolSaid s rows due t)
 
--- message t, once the slots below due are reported: a clash if some codeword has no fitting word, else lost if two fitting words
--- of some codeword differ in it, else whole
+-- a clash if some codeword has no fitting word, else lost if two fitting words of some codeword differ in it, else whole
 unfoldable pub verdict : Settings → List ℕ → ℕ → ℕ → Reply
-verdict s rows due t =
-    cond (noneFits s rows due t) reply.Clash (cond (twoDiffer s rows due t) reply.Lost reply.Whole)
+verdict s rows due t = verdictBy s (symbolSaid s rows due t)
 
 -- the bytes that the fitting words share
 unfoldable pub sharedBytes : Settings → List ℕ → ℕ → ℕ → List ℕ
-sharedBytes s rows due t =
-    table (messageLen s) (λ q. wholeByte (symbolSaid s rows due t (q / s .lanes) (q % s .lanes)))
+sharedBytes s rows due t = bytesBy s (symbolSaid s rows due t)
 
--- the message buffer: message t when whole, else zeros
+-- the message buffer: those bytes when whole, else zeros
 unfoldable pub bufferOf : Settings → List ℕ → ℕ → ℕ → Reply → List ℕ
-bufferOf s rows due t (reply.Refused c) = replicate (messageLen s) 0
-bufferOf s rows due t reply.NoneYet = replicate (messageLen s) 0
-bufferOf s rows due t reply.Whole = sharedBytes s rows due t
-bufferOf s rows due t reply.Lost = replicate (messageLen s) 0
-bufferOf s rows due t reply.Clash = replicate (messageLen s) 0
+bufferOf s rows due t r = bufferBy s (symbolSaid s rows due t) r
