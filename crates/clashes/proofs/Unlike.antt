@@ -3,7 +3,7 @@ use mathlib.Core.Path.{_≡_, refl, sym, ap, ap₂, _∙_}
 use mathlib.Core.Bool.{Bool, true, false, not, _||_}
 use mathlib.Core.List.{List}
 use mathlib.Core.Logic.{_≢_}
-use Prim.Native.Nat.{ℕ, zero, suc, _+_, _≤_, _<_}
+use Prim.Native.Nat.{ℕ, _+_, _≤_, _<_}
 use native.Mathlib.Numerals.{add-one}
 use native.Mathlib.Omega.{arith}
 use lib.Bits.{bitOr, or-zero-l, or-add-and, and-le-r}
@@ -13,6 +13,7 @@ use lib.Seq.{length-take-le, getD-take}
 use borrow.Author.Tests.{eq-eqb, ne-eqb, eqb-true, eqb-false}
 use Rattle.galois.specs.Bounded.{any}
 use Rattle.galois.specs.Byte.{_⊕_}
+use Rattle.galois.proofs.Cases.{any-same}
 use Rattle.galois.proofs.Xor.{plus-self, plus-cancel}
 use Rattle.gathering.specs.Pairs.{pairsOf}
 use Rattle.vectors.specs.Weighted.{weightedOf}
@@ -24,11 +25,6 @@ use Rattle.clashes.specs.Clashes.{sumClash}
 -- two bytes differ
 abbrev pub unlike : ℕ → ℕ → Bool
 unlike a b = not (eqb a b)
-
-pub any-same : (m : ℕ) (f g : ℕ → Bool) → ((v : ℕ) → v < m → f v ≡ g v) → any m f ≡ any m g
-unfolding any
-any-same zero f g e = refl
-any-same (suc m) f g e = ap₂ _||_ (any-same m f g (λ v h. e v (omega arith))) (e m (omega arith))
 
 -- ---- the bits in which runs of bytes differ
 

@@ -1,5 +1,5 @@
 -- From a test that antt computes over all numbers below a bound to the law at each of them.
-use mathlib.Core.Path.{_≡_, refl, subst, subst⁻¹}
+use mathlib.Core.Path.{_≡_, refl, ap₂, subst, subst⁻¹}
 use mathlib.Core.Bool.{Bool, true, false, _&&_, _||_}
 use mathlib.Core.Logic.{_≢_, _⊎_, inl, inr, ⊎-elim}
 use Prim.Native.Nat.{ℕ, zero, suc, _≤_, _<_}
@@ -72,6 +72,12 @@ any-one m f i h t = is-true (any m f) (some-any m f i h t)
 
 pub any-none : (m : ℕ) (f : ℕ → Bool) → ((i : ℕ) → i < m → T (f i) → ⊥) → any m f ≡ false
 any-none m f none = is-false (any m f) (λ t. let found = any-at m f t in none (found .0) (found .1) (found .2))
+
+-- tests that agree below m agree on whether one passes
+pub any-same : (m : ℕ) (f g : ℕ → Bool) → ((i : ℕ) → i < m → f i ≡ g i) → any m f ≡ any m g
+unfolding any
+any-same zero f g e = refl
+any-same (suc m) f g e = ap₂ _||_ (any-same m f g (λ i h. e i (le-step h))) (e m (lt-suc-self m))
 
 by-last : (m : ℕ) (f : ℕ → Bool) (b : Bool) → f m ≡ b → ((i : ℕ) → i < m → T (f i))
     → ((i : ℕ) → i < suc m → T (f i)) ⊎ ((i : ℕ) × (i < suc m) × (f i ≡ false))

@@ -9,7 +9,7 @@ use lib.Dec.{T}
 use lib.ListN.{getD}
 use borrow.Author.Tests.{eq-eqb, ne-eqb, eqb-true}
 use Rattle.galois.specs.Bounded.{any}
-use Rattle.galois.proofs.Cases.{is-true, and-left, and-right, both-pass, any-at, some-any, any-one, any-none}
+use Rattle.galois.proofs.Cases.{is-true, and-left, and-right, both-pass, any-at, some-any, any-one, any-none, any-same}
 use Rattle.gathering.specs.Pairs.{pairsOf}
 use Rattle.vectors.specs.Weighted.{weightedOf}
 use Rattle.code.specs.declared.settings.Settings.{Settings}
@@ -20,7 +20,7 @@ use Rattle.elimination.proofs.Terms.{freeDiffers}
 use Rattle.shares.specs.Shares.{laneByte}
 use Rattle.shares.proofs.Shares.{Shared}
 use Rattle.clashes.specs.Clashes.{sumClash, sumsClash}
-use Rattle.clashes.proofs.Unlike.{unlike, any-same}
+use Rattle.clashes.proofs.Unlike.{unlike}
 use Rattle.lanes.specs.Lanes.{Own, clashAt, lanesClash}
 use Rattle.lanes.proofs.Combined.{weighted-combined}
 

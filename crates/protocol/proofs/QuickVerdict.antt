@@ -1,15 +1,15 @@
 -- The receiver's replies through elimination, so that the card's figures can be computed: the same replies and message buffers
 -- as the definitions give, which try all words.
 use mathlib.Core.Path.{_≡_, refl, sym, ap, ap₂, _∙_}
-use mathlib.Core.Bool.{Bool, true, false, cond, _&&_, _||_}
+use mathlib.Core.Bool.{Bool, true, false, cond, _&&_}
 use mathlib.Core.List.{List, [], _∷_, _++_}
 use Prim.Native.Nat.{ℕ, zero, suc, _+_, _*_, _/_, _%_, _<_}
-use native.Mathlib.Nat.{le-step, lt-suc-self, div-lt-iff-lt-mul}
+use native.Mathlib.Nat.{div-lt-iff-lt-mul}
 use native.Mathlib.Omega.{arith}
 use lib.Dec.{T, ltb, ltb→lt, lit<}
 use lib.ListN.{getD, take, drop, replicate}
 use Rattle.galois.specs.Bounded.{any}
-use Rattle.galois.proofs.Cases.{and-left, and-right, both-pass}
+use Rattle.galois.proofs.Cases.{and-left, and-right, both-pass, any-same}
 use Rattle.code.specs.declared.settings.Settings.{Settings}
 use Rattle.code.specs.Fitting.{Arrived}
 use Rattle.code.specs.Settings.{accepted, delayOf, kOf, nOf}
@@ -138,12 +138,6 @@ small-put size r row rows h hs =
 
 -- ---- the laws
 
--- tests that agree below m agree on whether one passes
-any-equal : (m : ℕ) (f g : ℕ → Bool) → ((i : ℕ) → i < m → f i ≡ g i) → any m f ≡ any m g
-unfolding any
-any-equal zero f g e = refl
-any-equal (suc m) f g e = ap₂ _||_ (any-equal m f g (λ i h. e i (le-step h))) (e m (lt-suc-self m))
-
 module _ (s : Settings) (ok : T (accepted s)) (rows : List ℕ) (bytes : T (small rows)) (due t : ℕ) where
   -- what the fitting words say of each symbol, and what elimination says
   abbrev told : ℕ → ℕ → Symbol
@@ -163,8 +157,8 @@ module _ (s : Settings) (ok : T (accepted s)) (rows : List ℕ) (bytes : T (smal
   some-alike : (test : Symbol → Bool) → someCodeword s (λ i v. test (told i v)) ≡ someCodeword s (λ i v. test (quickly i v))
   unfolding someCodeword
   some-alike test =
-      any-equal (kOf s) (λ i. any (s .lanes) (λ v. test (told i v))) (λ i. any (s .lanes) (λ v. test (quickly i v)))
-      (λ i hi. any-equal (s .lanes) (λ v. test (told i v)) (λ v. test (quickly i v)) (λ v hv. ap test (quick-symbol i v hi)))
+      any-same (kOf s) (λ i. any (s .lanes) (λ v. test (told i v))) (λ i. any (s .lanes) (λ v. test (quickly i v)))
+      (λ i hi. any-same (s .lanes) (λ v. test (told i v)) (λ v. test (quickly i v)) (λ v hv. ap test (quick-symbol i v hi)))
 
   -- and the verdict is the one that elimination gives
   pub quick-verdict : verdict s rows due t ≡ verdictBy s quickly

@@ -8,13 +8,12 @@ use lib.Dec.{T}
 use lib.ListN.{getD}
 use Rattle.galois.specs.Bounded.{any}
 use Rattle.galois.proofs.ByIndex.{getD-table}
-use Rattle.galois.proofs.Cases.{is-false, some-any, any-one, any-none}
+use Rattle.galois.proofs.Cases.{is-false, some-any, any-one, any-none, any-same}
 use Rattle.code.specs.declared.settings.Settings.{Settings}
 use Rattle.elimination.specs.declared.lane.Symbol.the-variants as symbol
 use Rattle.elimination.specs.Elimination.{Reduced, combined, clashes, differs, symbolOf, knownIn}
 use Rattle.elimination.proofs.Answers.{symbol-clash, symbol-lost, symbol-whole}
 use Rattle.shares.specs.Shares.{laneByte}
-use Rattle.clashes.proofs.Unlike.{any-same}
 use Rattle.lanes.specs.Lanes.{Answer, combinedLanes, lanesClash, lanesSaid}
 use Rattle.lanes.proofs.Said.{answers, said-clash, said-lost, said-whole}
 use Rattle.protocol.specs.Verdict.{symbolSaid, isClash, isLost, wholeByte}

@@ -17,7 +17,6 @@ use Rattle.code.proofs.Shape.{Shape, shape}
 use Rattle.elimination.specs.Elimination.{Reduced, cell, free, eliminated, combined, clashes, symbolOf, knownIn, Solved}
 use Rattle.elimination.proofs.Invariant.{Pivot, Invariant, invariant-end}
 use Rattle.elimination.proofs.PivotSearch.{getD-default, is-pivot}
-use Rattle.clashes.proofs.Unlike.{any-same}
 use Rattle.symbols.proofs.ParityFlags.{Unsolved}
 
 module _ (s : Settings) (passed : T (accepted s)) (flags left : List ℕ) (byte : ℕ → ℕ) (bytes : (p : ℕ) → byte p < 256) where
