@@ -1,7 +1,7 @@
 -- Document 01, "The matrix": words, and the word of a choice of the first k symbols.
 use mathlib.Core.Bool.{true, false, cond}
 use mathlib.Core.List.{List, [], _∷_, _++_}
-use Prim.Native.Nat.{ℕ, zero, suc}
+use Prim.Native.Nat.{ℕ, zero, suc, _<_}
 use lib.Dec.{eqb}
 use lib.ListN.{getD}
 use Rattle.galois.specs.Byte.{_⊕_, _⊗_}
@@ -10,6 +10,10 @@ use Rattle.code.specs.declared.settings.Settings.{Settings}
 use Rattle.code.specs.Settings.{accepted, kOf}
 use Rattle.code.specs.Matrix.{entry}
 use Rattle.galois.specs.Table.{table}
+
+-- multipliers of G's rows that are bytes: those of a word
+abbrev pub OfWord : (ℕ → ℕ) → Type 0
+OfWord u = (r : ℕ) → u r < 256
 
 -- the word of the multipliers u, a sum of byte multiples of G's rows, at position p
 unfoldable pub wordAt : Settings → (ℕ → ℕ) → ℕ → ℕ

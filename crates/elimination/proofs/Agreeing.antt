@@ -11,12 +11,12 @@ use Rattle.galois.proofs.ByteProduct.{times-comm, times-zero, zero-times, one-t
 use Rattle.galois.proofs.Sums.{sum-equal, sum-single}
 use Rattle.code.specs.declared.settings.Settings.{Settings}
 use Rattle.code.specs.Settings.{kOf, nOf}
-use Rattle.code.specs.Word.{wordAt}
+use Rattle.code.specs.Word.{OfWord, wordAt}
 use Rattle.code.specs.Fitting.{Arrived, fits}
 use Rattle.code.proofs.Shape.{Shape}
 use Rattle.code.proofs.Fits.{fits-at, fits-all}
 use Rattle.elimination.specs.Elimination.{cell, free, Reduced, combined, clashes}
-use Rattle.elimination.proofs.Spans.{Bytes, word}
+use Rattle.elimination.proofs.Spans.{word}
 use Rattle.elimination.proofs.Pivots.{test-equal}
 use Rattle.elimination.proofs.Invariant.{Pivot, Invariant}
 
@@ -26,7 +26,7 @@ module _ (s : Settings) (h : Shape s) (a : Arrived) (x : Reduced) (i : Invariant
   Agrees v = (q : ℕ) → q < nOf s → T (a .known q) → word (kOf s) (cell (x .rows)) v q ≡ a .byte q
 
   -- then each pivot's multiplier is the byte at its position
-  pivot-multiplier : (v : ℕ → ℕ) → Bytes v → Agrees v → (r : ℕ) → r < kOf s → (T (free (x .roles) r) → ⊥)
+  pivot-multiplier : (v : ℕ → ℕ) → OfWord v → Agrees v → (r : ℕ) → r < kOf s → (T (free (x .roles) r) → ⊥)
       → v r ≡ a .byte (getD (x .roles) r 16)
   pivot-multiplier v hv e r hr taken =
       let j : ℕ = getD (x .roles) r 16 in
@@ -38,7 +38,7 @@ module _ (s : Settings) (h : Shape s) (a : Arrived) (x : Reduced) (i : Invariant
       ∙ e j (at .done) (at .is-known)
 
   -- so it is the combined word wherever the free rows are 0
-  agrees-combined : (v : ℕ → ℕ) → Bytes v → Agrees v → (q : ℕ)
+  agrees-combined : (v : ℕ → ℕ) → OfWord v → Agrees v → (q : ℕ)
       → ((r : ℕ) → r < kOf s → T (free (x .roles) r) → cell (x .rows) r q ≡ 0)
       → word (kOf s) (cell (x .rows)) v q ≡ combined s x (a .byte) q
   unfolding combined
@@ -53,7 +53,7 @@ module _ (s : Settings) (h : Shape s) (a : Arrived) (x : Reduced) (i : Invariant
       term r hr false f = ap (λ (c : ℕ). c ⊗ cell (x .rows) r q) (pivot-multiplier v hv e r hr (λ t. rw f at t))
 
   -- a fitting word is the combined word wherever the free rows are 0
-  pub fitting-combined : (u : ℕ → ℕ) → Bytes u → T (fits s a u) → (q : ℕ) → q < nOf s
+  pub fitting-combined : (u : ℕ → ℕ) → OfWord u → T (fits s a u) → (q : ℕ) → q < nOf s
       → ((r : ℕ) → r < kOf s → T (free (x .roles) r) → cell (x .rows) r q ≡ 0)
       → wordAt s u q ≡ combined s x (a .byte) q
   unfolding wordAt
@@ -68,7 +68,7 @@ module _ (s : Settings) (h : Shape s) (a : Arrived) (x : Reduced) (i : Invariant
   chosen r = cond (free (x .roles) r) 0 (a .byte (getD (x .roles) r 16))
 
   -- they are bytes where the bytes that arrived are
-  pub chosen-below : ((p : ℕ) → a .byte p < 256) → Bytes chosen
+  pub chosen-below : ((p : ℕ) → a .byte p < 256) → OfWord chosen
   unfolding chosen
   chosen-below hb r = go (free (x .roles) r)
     where
@@ -101,8 +101,8 @@ module _ (s : Settings) (h : Shape s) (a : Arrived) (x : Reduced) (i : Invariant
       kn
 
   -- a word over the reduced rows that agrees, as a word that fits
-  pub agrees-fits : (v : ℕ → ℕ) → Bytes v → Agrees v
-      → (u : ℕ → ℕ) × Bytes u × T (fits s a u) × ((q : ℕ) → q < nOf s → wordAt s u q ≡ word (kOf s) (cell (x .rows)) v q)
+  pub agrees-fits : (v : ℕ → ℕ) → OfWord v → Agrees v
+      → (u : ℕ → ℕ) × OfWord u × T (fits s a u) × ((q : ℕ) → q < nOf s → wordAt s u q ≡ word (kOf s) (cell (x .rows)) v q)
   unfolding wordAt
   agrees-fits v hv e =
       let u = i .words .there v hv in

@@ -10,10 +10,7 @@ use Rattle.galois.specs.Sum.{sum}
 use Rattle.galois.proofs.Xor.{plus-assoc, plus-zero, plus-self}
 use Rattle.galois.proofs.ByteProduct.{times-below, times-assoc, zero-times, one-times}
 use Rattle.galois.proofs.Sums.{sum-equal, sum-single, sum-below, sum-exchange, sum-times, weights-plus, weights-times}
-
--- every multiplier is a byte
-abbrev pub Bytes : (ℕ → ℕ) → Type 0
-Bytes u = (r : ℕ) → u r < 256
+use Rattle.code.specs.Word.{OfWord}
 
 -- the word of the multipliers u over the k rows of M, at position p
 abbrev pub word : ℕ → (ℕ → ℕ → ℕ) → (ℕ → ℕ) → ℕ → ℕ
@@ -21,7 +18,7 @@ word k M u p = sum k (λ r. u r ⊗ M r p)
 
 -- every word of M is a word of G, at the first n positions
 abbrev pub Within : ℕ → ℕ → (ℕ → ℕ → ℕ) → (ℕ → ℕ → ℕ) → Type 0
-Within k n M G = (u : ℕ → ℕ) → Bytes u → (v : ℕ → ℕ) × Bytes v × ((p : ℕ) → p < n → word k M u p ≡ word k G v p)
+Within k n M G = (u : ℕ → ℕ) → OfWord u → (v : ℕ → ℕ) × OfWord v × ((p : ℕ) → p < n → word k M u p ≡ word k G v p)
 
 -- M and G have the same words
 pub record Spans (k n : ℕ) (M G : ℕ → ℕ → ℕ) : Type 0 where
@@ -71,7 +68,7 @@ pub only-other : (q b j : ℕ) → j ≢ q → only q b j ≡ 0
 unfolding only
 only-other q b j ne = rw (ne-eqb j q ne)
 
-pub only-below : (q b : ℕ) → b < 256 → Bytes (only q b)
+pub only-below : (q b : ℕ) → b < 256 → OfWord (only q b)
 unfolding only
 only-below q b hb j = go (eqb j q)
   where

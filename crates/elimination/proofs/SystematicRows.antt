@@ -16,13 +16,13 @@ use Rattle.galois.proofs.Sums.{sum-equal, sum-single, sum-below}
 use Rattle.code.specs.declared.settings.Settings.{Settings}
 use Rattle.code.specs.Settings.{accepted, kOf}
 use Rattle.code.specs.Matrix.{entry}
-use Rattle.code.specs.Word.{wordAt, symbol, unit, systematicOf}
+use Rattle.code.specs.Word.{OfWord, wordAt, symbol, unit, systematicOf}
 use Rattle.code.proofs.Shape.{Shape, shape}
 use Rattle.code.proofs.Words.{unit-self, unit-other, wordAt-below, word-of-sum, word-equal}
 use Rattle.code.proofs.Symbols.{symbol-below}
 use Rattle.code.proofs.Systematic.{unit-multiplier, unit-source, systematic-accepted}
 use Rattle.elimination.specs.Elimination.{cell}
-use Rattle.elimination.proofs.Spans.{Bytes, Spans, within-rows}
+use Rattle.elimination.proofs.Spans.{Spans, within-rows}
 
 module _ (s : Settings) (passed : T (accepted s)) where
   -- ---- its entries
@@ -56,7 +56,7 @@ module _ (s : Settings) (passed : T (accepted s)) where
   -- ---- its words
 
   -- a word is the sum of the units' words, each by its source symbol
-  word-of-sources : (u : ℕ → ℕ) → Bytes u → (p : ℕ) → wordAt s u p ≡ sum (kOf s) (λ r. wordAt s u r ⊗ symbol s (unit r) p)
+  word-of-sources : (u : ℕ → ℕ) → OfWord u → (p : ℕ) → wordAt s u p ≡ sum (kOf s) (λ r. wordAt s u r ⊗ symbol s (unit r) p)
   unfolding symbol
   word-of-sources u hu p =
       let h : Shape s = shape s passed in

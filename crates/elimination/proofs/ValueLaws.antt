@@ -10,7 +10,7 @@ use Rattle.galois.proofs.Cases.{and-left, and-right, both-pass}
 use Rattle.code.specs.declared.settings.Settings.{Settings}
 use Rattle.code.specs.Settings.{kOf, nOf}
 use Rattle.galois.specs.Table.{table}
-use Rattle.code.specs.Word.{wordAt}
+use Rattle.code.specs.Word.{OfWord, wordAt}
 use Rattle.code.specs.Fitting.{Arrived, fits}
 use Rattle.galois.proofs.ByIndex.{length-table, getD-table}
 use Rattle.code.proofs.Words.{wordAt-equal, wordAt-below}
@@ -62,10 +62,6 @@ whole-one (x ∷ y ∷ l) b e = absurd (let z : _≡_ {A = ℕ} 0 1 = cc in omeg
 
 -- ---- the values of the fitting words
 
--- multipliers that are bytes
-abbrev pub Bytes : (ℕ → ℕ) → Type 0
-Bytes u = (r : ℕ) → u r < 256
-
 module _ (s : Settings) (a : Arrived) where
   -- whether a word fits rests on its first k multipliers
   pub fits-equal : (u v : ℕ → ℕ) → ((r : ℕ) → r < kOf s → u r ≡ v r) → T (fits s a u) → T (fits s a v)
@@ -74,7 +70,7 @@ module _ (s : Settings) (a : Arrived) where
       (λ p hp known. sym (wordAt-equal s u v e p) ∙ fits-at s a u p hp f known)
 
   -- the byte of a fitting word is a value
-  pub has-value : (i b : ℕ) (u : ℕ → ℕ) → Bytes u → T (fits s a u) → wordAt s u i ≡ b → T (hasValue s a i b)
+  pub has-value : (i b : ℕ) (u : ℕ → ℕ) → OfWord u → T (fits s a u) → wordAt s u i ≡ b → T (hasValue s a i b)
   unfolding hasValue
   has-value i b u h f e =
       let v : ℕ → ℕ = λ r. getD (table (kOf s) u) r 0 in
@@ -85,7 +81,7 @@ module _ (s : Settings) (a : Arrived) where
       (subst (λ (c : ℕ). T (eqb (wordAt s v i) c)) (sym (wordAt-equal s u v same i) ∙ e) (eqb-refl (wordAt s v i))))
 
   -- a value is that of a fitting word
-  pub value-of : (i b : ℕ) → T (hasValue s a i b) → (u : ℕ → ℕ) × Bytes u × T (fits s a u) × (wordAt s u i ≡ b)
+  pub value-of : (i b : ℕ) → T (hasValue s a i b) → (u : ℕ → ℕ) × OfWord u × T (fits s a u) × (wordAt s u i ≡ b)
   unfolding hasValue
   value-of i b t =
       let found = anyBytes-at (kOf s) (λ l. fits s a (λ r. getD l r 0) && eqb (wordAt s (λ r. getD l r 0) i) b) t in
@@ -97,12 +93,12 @@ module _ (s : Settings) (a : Arrived) where
       )
 
   -- the byte of a fitting word is among the values
-  pub values-in : (i : ℕ) (u : ℕ → ℕ) → Bytes u → T (fits s a u) → List·Memᴰ (wordAt s u i) (values s a i)
+  pub values-in : (i : ℕ) (u : ℕ → ℕ) → OfWord u → T (fits s a u) → List·Memᴰ (wordAt s u i) (values s a i)
   unfolding values
   values-in i u h f = passing-in 256 (hasValue s a i) (wordAt s u i) (wordAt-below s u i) (has-value i (wordAt s u i) u h f refl)
 
   -- and each value is that of a fitting word
-  pub in-values : (i b : ℕ) → List·Memᴰ b (values s a i) → (u : ℕ → ℕ) × Bytes u × T (fits s a u) × (wordAt s u i ≡ b)
+  pub in-values : (i b : ℕ) → List·Memᴰ b (values s a i) → (u : ℕ → ℕ) × OfWord u × T (fits s a u) × (wordAt s u i ≡ b)
   unfolding values
   in-values i b m = value-of i b (in-passing 256 (hasValue s a i) b m .1)
 
@@ -114,21 +110,21 @@ module _ (s : Settings) (a : Arrived) where
   -- ---- what is said of a position
 
   -- where no word fits, a clash
-  pub said-clash : (i : ℕ) → ((u : ℕ → ℕ) → Bytes u → T (fits s a u) → ⊥) → said (values s a i) ≡ Clash
+  pub said-clash : (i : ℕ) → ((u : ℕ → ℕ) → OfWord u → T (fits s a u) → ⊥) → said (values s a i) ≡ Clash
   said-clash i none = none-clash (values s a i) (λ b m. let w = in-values i b m in none (w .0) (w .1) (w .2))
 
   -- and only there
-  pub clash-said : (i : ℕ) → said (values s a i) ≡ Clash → (u : ℕ → ℕ) → Bytes u → T (fits s a u) → ⊥
+  pub clash-said : (i : ℕ) → said (values s a i) ≡ Clash → (u : ℕ → ℕ) → OfWord u → T (fits s a u) → ⊥
   clash-said i e u h f = clash-none (values s a i) e (wordAt s u i) (values-in i u h f)
 
   -- where two fitting words differ, lost
-  pub said-lost : (i : ℕ) (u v : ℕ → ℕ) → Bytes u → Bytes v → T (fits s a u) → T (fits s a v)
+  pub said-lost : (i : ℕ) (u v : ℕ → ℕ) → OfWord u → OfWord v → T (fits s a u) → T (fits s a v)
       → (wordAt s u i ≡ wordAt s v i → ⊥) → said (values s a i) ≡ Lost
   said-lost i u v hu hv fu fv = two-lost (values s a i) (wordAt s u i) (wordAt s v i) (values-in i u hu fu) (values-in i v hv fv)
 
   -- and only there
   pub lost-said : (i : ℕ) → said (values s a i) ≡ Lost
-      → (u : ℕ → ℕ) × (v : ℕ → ℕ) × Bytes u × Bytes v × T (fits s a u) × T (fits s a v) × (wordAt s u i ≡ wordAt s v i → ⊥)
+      → (u : ℕ → ℕ) × (v : ℕ → ℕ) × OfWord u × OfWord v × T (fits s a u) × T (fits s a v) × (wordAt s u i ≡ wordAt s v i → ⊥)
   lost-said i e =
       let pair = lost-two (values s a i) (values-once i) e in
       let x = in-values i (pair .0) (pair .2) in
@@ -136,15 +132,15 @@ module _ (s : Settings) (a : Arrived) where
       (x .0, y .0, x .1, y .1, x .2, y .2, λ same. pair .4 (sym (x .3) ∙ same ∙ y .3))
 
   -- where all fitting words share a byte, that byte
-  pub said-whole : (i : ℕ) (u : ℕ → ℕ) → Bytes u → T (fits s a u)
-      → ((v : ℕ → ℕ) → Bytes v → T (fits s a v) → wordAt s v i ≡ wordAt s u i) → said (values s a i) ≡ Whole (wordAt s u i)
+  pub said-whole : (i : ℕ) (u : ℕ → ℕ) → OfWord u → T (fits s a u)
+      → ((v : ℕ → ℕ) → OfWord v → T (fits s a v) → wordAt s v i ≡ wordAt s u i) → said (values s a i) ≡ Whole (wordAt s u i)
   said-whole i u h f all =
       one-whole (values s a i) (values-once i) (wordAt s u i) (values-in i u h f)
       (λ c m. let w = in-values i c m in sym (w .3) ∙ all (w .0) (w .1) (w .2))
 
   -- and only there
   pub whole-said : (i b : ℕ) → said (values s a i) ≡ Whole b
-      → ((u : ℕ → ℕ) × Bytes u × T (fits s a u) × (wordAt s u i ≡ b)) × ((v : ℕ → ℕ) → Bytes v → T (fits s a v) → wordAt s v i ≡ b)
+      → ((u : ℕ → ℕ) × OfWord u × T (fits s a u) × (wordAt s u i ≡ b)) × ((v : ℕ → ℕ) → OfWord v → T (fits s a v) → wordAt s v i ≡ b)
   whole-said i b e =
       let one = whole-one (values s a i) b e in
       (in-values i b (one .0), λ v h f. one .1 (wordAt s v i) (values-in i v h f))

@@ -6,6 +6,7 @@ use Prim.Native.Nat.{ℕ, _<_}
 use native.Mathlib.Omega.{arith}
 use lib.Dec.{T, lit<}
 use lib.ListN.{getD, replicate}
+use Rattle.galois.specs.Byte.{Bytes}
 use Rattle.code.specs.declared.settings.Settings.{Settings}
 use Rattle.repair.specs.Fair.{Fair}
 use Rattle.repair.proofs.FairTest.{fair-tested}
@@ -13,7 +14,7 @@ use Rattle.protocol.specs.declared.Answer.the-variants as answer
 use Rattle.protocol.specs.declared.Reply.the-variants as reply
 use Rattle.protocol.specs.Lengths.{senderLen, receiverLen}
 use Rattle.protocol.specs.TwoLists.{Send, SendMade, heard, missed, ReportMade}
-use Rattle.protocol.specs.Histories.{Bytes, SentAs, accepts, lostAt}
+use Rattle.protocol.specs.Histories.{SentAs, accepts, lostAt}
 use Rattle.protocol.specs.Claim.{Faithful, Holds, Demand3}
 use Rattle.protocol.proofs.Demand.{demand3}
 use Rattle.figures.specs.Card.{setTo, sendCalls, sent, framesOf, Fate, lost, own, reportsOf, calls, reported}
@@ -41,14 +42,12 @@ Figure =
 
 -- the messages are bytes
 card-bytes : (c : Send) → List·Memᴰ c (sendCalls card 4) → Bytes (c .message)
-unfolding computing sendCalls Bytes
+unfolding computing sendCalls
 card-bytes =
-    let two : (a b : ℕ) → a < 256 → b < 256 → Bytes (a ∷ b ∷ []) = λ a b ha hb.
-    from-each (λ x. x < 256) (a ∷ b ∷ []) (ha, (hb, tt)) in
     let zero : 0 < 256 = lit< tt in
     let one : 1 < 256 = lit< tt in
     from-each (λ c. Bytes (c .message)) (sendCalls card 4)
-    (two 1 0 one zero, (two 0 1 zero one, (two 0 0 zero zero, (two 0 0 zero zero, tt))))
+    ((one, (zero, tt)), ((zero, (one, tt)), ((zero, (zero, tt)), ((zero, (zero, tt)), tt))))
 
 -- what the frames' term says of one report
 abbrev Own : ReportMade → Type 0

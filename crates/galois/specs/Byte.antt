@@ -1,12 +1,17 @@
 -- Document 01, "Two fields": a byte 16h + l means hα + l, with narrow h and l, and α × α = α + 8.
 use mathlib.Core.Path.{_≡_}
 use mathlib.Core.Bool.{Bool, true, false, cond}
-use mathlib.Core.List.{List}
+use mathlib.Core.List.{List, [], _∷_}
 use Prim.Native.Nat.{ℕ, zero, suc, _+_, _*_, _/_, _%_, _<_}
 use lib.Dec.{eqb, ltb}
 use lib.Bits.{bitXor}
 use lib.ListN.{getD}
 use Rattle.galois.specs.Narrow.{_⊞_, _⊠_}
+
+-- a list of bytes: what a lent slice holds
+abbrev pub Bytes : List ℕ → Type 0
+Bytes [] = Unit {0}
+Bytes (x ∷ l) = (x < 256) × Bytes l
 
 infixl 60 _⊕_
 infixl 70 _⊗_

@@ -7,6 +7,7 @@ use mathlib.Core.List.{List, [], _∷_, List·Memᴰ}
 use Prim.Native.Nat.{ℕ, _+_, _-_, _≤_}
 use lib.Dec.{T, eqb}
 use lib.ListN.{length}
+use Rattle.galois.specs.Byte.{Bytes}
 use Rattle.code.specs.declared.settings.Settings.{Settings}
 use Rattle.code.specs.Settings.{accepted, delayOf, kOf}
 use Rattle.repair.specs.Fair.{Fair}
@@ -14,7 +15,7 @@ use Rattle.protocol.specs.declared.Answer.the-variants as answer
 use Rattle.protocol.specs.declared.Reply.the-variants as reply
 use Rattle.protocol.specs.Lengths.{lastSlot, messageLen, frameLen, senderLen, receiverLen}
 use Rattle.protocol.specs.TwoLists.{Send, Report, heard}
-use Rattle.protocol.specs.Histories.{Bytes, ofLoss}
+use Rattle.protocol.specs.Histories.{ofLoss}
 use Rattle.protocol.specs.Claim.{NoCause}
 use Rattle.state.specs.State.{stateLen}
 use Rattle.protocol.specs.Numbers.{answerNumber, replyNumber}

@@ -7,6 +7,7 @@ use Prim.Native.Nat.{ℕ, _+_, _-_, _≤_, _<_, zero-le}
 use native.Mathlib.Omega.{arith}
 use lib.Dec.{T}
 use lib.ListN.{length}
+use Rattle.galois.specs.Byte.{Bytes}
 use Rattle.galois.proofs.Cases.{all-or-one}
 use Rattle.code.specs.declared.settings.Settings.{Settings}
 use Rattle.code.specs.Settings.{accepted, delayOf, kOf, nOf}
@@ -20,7 +21,7 @@ use Rattle.protocol.specs.Codewords.{source}
 use Rattle.protocol.specs.Verdict.{arrived}
 use Rattle.protocol.specs.Calls.{openReceiverOf}
 use Rattle.protocol.specs.TwoLists.{Send, SendMade, heard, ReportMade, reports}
-use Rattle.protocol.specs.Histories.{Bytes, SentAs, messageAt, accepts, Heard, lostAt}
+use Rattle.protocol.specs.Histories.{SentAs, messageAt, accepts, Heard, lostAt}
 use Rattle.protocol.specs.Meaning.{Came}
 use Rattle.protocol.specs.Claim.{Faithful, Holds, Demand3}
 use Rattle.protocol.proofs.TrueWords.{symbol-early, symbol-slot}

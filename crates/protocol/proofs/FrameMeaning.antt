@@ -6,6 +6,7 @@ use native.Mathlib.Omega.{arith}
 use lib.Dec.{T}
 use lib.ListN.{getD}
 use borrow.Author.Tests.{lt-ltb, le-ltb}
+use Rattle.galois.specs.Byte.{Bytes}
 use Rattle.code.specs.declared.settings.Settings.{Settings}
 use Rattle.code.specs.Settings.{accepted, kOf, nOf}
 use Rattle.code.specs.Word.{wordAt, symbol}
@@ -18,7 +19,7 @@ use Rattle.protocol.specs.Frame.{remembered, sentSymbol}
 use Rattle.protocol.specs.Codewords.{source}
 use Rattle.protocol.specs.Calls.{sendOf}
 use Rattle.protocol.specs.TwoLists.{Send, SendMade}
-use Rattle.protocol.specs.Histories.{Bytes, SentAs, messageAt}
+use Rattle.protocol.specs.Histories.{SentAs, messageAt}
 use Rattle.protocol.specs.Meaning.{Begins, Share, AcceptedSend, FrameOfSlot, Demand2Frame}
 use Rattle.protocol.proofs.NumberLaws.{answer-tells}
 use Rattle.protocol.proofs.TrueWords.{source-below, trueMultiplier, true-word}

@@ -7,6 +7,7 @@ use native.Mathlib.Omega.{arith}
 use lib.Dec.{T, eqb}
 use lib.ListN.{length}
 use borrow.Author.Tests.{eqb-true}
+use Rattle.galois.specs.Byte.{Bytes}
 use Rattle.code.specs.declared.settings.Settings.{Settings}
 use Rattle.code.specs.Settings.{accepted}
 use Rattle.protocol.specs.declared.Sender.{Sender}
@@ -17,7 +18,6 @@ use Rattle.protocol.specs.Causes.{openTable}
 use Rattle.protocol.specs.Numbers.{answerNumber}
 use Rattle.protocol.specs.Calls.{OpenedSender, openSenderOf, Sent, sendOf, OpenedReceiver, openReceiverOf, Reported}
 use Rattle.protocol.specs.TwoLists.{Send, SendMade, sends, Report, reportOf, ReportMade, reports}
-use Rattle.protocol.specs.Histories.{Bytes}
 use Rattle.protocol.specs.Refusals.{First, Refuses}
 use Rattle.protocol.specs.Claim.{Faithful, Holds, Demand3}
 use Rattle.protocol.specs.Runs.{SenderRun, SenderOpened, ReceiverRun, ReceiverOpened, RunsAreLists, Demand3Runs}

@@ -4,6 +4,7 @@ use mathlib.Core.List.{List, List·Memᴰ}
 use Prim.Native.Nat.{ℕ, _+_, _*_, _≤_, _<_, zero-le}
 use lib.Dec.{T}
 use lib.ListN.{length, getD, take, replicate, length-replicate}
+use Rattle.galois.specs.Byte.{Bytes}
 use Rattle.code.specs.declared.settings.Settings.{Settings}
 use Rattle.code.specs.Settings.{accepted, nOf}
 use Rattle.code.specs.Word.{symbol}
@@ -14,7 +15,7 @@ use Rattle.protocol.specs.Frame.{header, sentSymbol}
 use Rattle.protocol.specs.Codewords.{source}
 use Rattle.protocol.specs.Calls.{OpenedSender, openSenderOf}
 use Rattle.protocol.specs.TwoLists.{Send, SendMade, sends}
-use Rattle.protocol.specs.Histories.{Bytes, SentAs, messageAt}
+use Rattle.protocol.specs.Histories.{SentAs, messageAt}
 use Rattle.protocol.specs.Claim.{SendTaken}
 use Rattle.protocol.proofs.Sending.{opened-sender}
 use Rattle.protocol.proofs.Slots as slots

@@ -8,6 +8,7 @@ use native.Mathlib.Nat.{mod-lt}
 use native.Mathlib.Omega.{arith}
 use lib.Dec.{T, eqb, lit<}
 use lib.ListN.{length, getD, length-append}
+use Rattle.galois.specs.Byte.{Bytes}
 use Rattle.code.specs.declared.settings.Settings.{Settings}
 use Rattle.code.specs.Settings.{accepted, nOf}
 use Rattle.code.proofs.Shape.{Shape, shape}
@@ -17,7 +18,7 @@ use Rattle.protocol.specs.Lengths.{lastSlot, messageLen, bodyLen, frameL
 use Rattle.protocol.specs.Frame.{mark, five, slotBytes, header, bodyOf, frameOf}
 use Rattle.protocol.specs.Calls.{Sent, sendOf}
 use Rattle.protocol.specs.TwoLists.{Send, SendMade, sends}
-use Rattle.protocol.specs.Histories.{Bytes, SentAs, isAccepted, pickedAt, messageAt}
+use Rattle.protocol.specs.Histories.{SentAs, isAccepted, pickedAt, messageAt}
 use Rattle.protocol.specs.Claim.{SendTaken}
 use Rattle.protocol.proofs.Rings.{length-putRow}
 use Rattle.protocol.proofs.Sending.{SendCase, taken, refused, send-case, send-taken, taken-case}
@@ -126,10 +127,9 @@ module _ (s : Settings) (ok : T (accepted s)) (x : Sender) (rows : List ℕ) (ca
 
 -- an element of a list of bytes is a byte, and so is 0 past its end
 pub byte-at : (l : List ℕ) → Bytes l → (j : ℕ) → getD l j 0 < 256
-unfolding Bytes
 byte-at [] b j = lit< tt
-byte-at (a ∷ l) b zero = b a (List·Memᴰ·head refl)
-byte-at (a ∷ l) b (suc j) = byte-at l (λ x h. b x (List·Memᴰ·tail h)) j
+byte-at (a ∷ l) b zero = b .0
+byte-at (a ∷ l) b (suc j) = byte-at l (b .1) j
 
 -- a message of the history is made of bytes
 pub message-byte : (x : Sender) (rows : List ℕ) (calls : List Send) → ((c : Send) → List·Memᴰ c calls → Bytes (c .message))

@@ -5,6 +5,7 @@ use mathlib.Core.List.{List, List·Memᴰ}
 use Prim.Native.Nat.{ℕ, _+_, _-_, _≤_}
 use lib.Dec.{T}
 use lib.ListN.{length, take}
+use Rattle.galois.specs.Byte.{Bytes}
 use Rattle.code.specs.declared.settings.Settings.{Settings}
 use Rattle.code.specs.Settings.{accepted, delayOf, kOf}
 use Rattle.repair.specs.Fair.{Fair}
@@ -14,7 +15,7 @@ use Rattle.protocol.specs.Lengths.{lastSlot, messageLen, frameLen, sende
 use Rattle.protocol.specs.Frame.{header}
 use Rattle.protocol.specs.Calls.{OpenedSender, OpenedReceiver, openSenderOf, openReceiverOf}
 use Rattle.protocol.specs.TwoLists.{Send, SendMade, sends, Report, heard, missed, ReportMade, reports}
-use Rattle.protocol.specs.Histories.{Bytes, SentAs, lostAt}
+use Rattle.protocol.specs.Histories.{SentAs, lostAt}
 -- the crates above cite it from here
 pub use Rattle.protocol.specs.Histories.{accepts}
 

@@ -2,17 +2,13 @@
 use mathlib.Core.Path.{_≡_}
 use mathlib.Core.Bool.{Bool, true, false, cond, _&&_, _||_}
 use mathlib.Core.List.{List, [], _∷_, List·Memᴰ}
-use Prim.Native.Nat.{ℕ, _<_}
+use Prim.Native.Nat.{ℕ}
 use lib.Dec.{T, eqb}
 use Rattle.protocol.specs.declared.Answer.{Answer}
 use Rattle.protocol.specs.declared.Answer.the-variants as answer
 use Rattle.protocol.specs.declared.Reply.{Reply}
 use Rattle.protocol.specs.declared.Reply.the-variants as reply
 use Rattle.protocol.specs.TwoLists.{SendMade, Report, heard, missed, ReportMade}
-
--- a list of bytes: what a lent slice holds
-unfoldable pub Bytes : List ℕ → Type 0
-Bytes l = (x : ℕ) → List·Memᴰ x l → x < 256
 
 -- ---- the sends
 

@@ -6,9 +6,10 @@ use mathlib.Core.List.{List, List·Memᴰ}
 use Prim.Native.Nat.{ℕ, _+_, _-_, _*_, _%_, _≤_, _<_}
 use lib.Dec.{T}
 use lib.ListN.{getD, length, take, replicate}
+use Rattle.galois.specs.Byte.{Bytes}
 use Rattle.code.specs.declared.settings.Settings.{Settings}
 use Rattle.code.specs.Settings.{accepted, delayOf, kOf, nOf}
-use Rattle.code.specs.Word.{wordAt}
+use Rattle.code.specs.Word.{OfWord, wordAt}
 use Rattle.code.specs.Fitting.{Arrived, fits}
 use Rattle.protocol.specs.declared.Sender.{Sender}
 use Rattle.protocol.specs.declared.Receiver.{Receiver}
@@ -20,13 +21,9 @@ use Rattle.protocol.specs.Verdict.{arrived}
 use Rattle.protocol.specs.Numbers.{answerNumber, replyNumber}
 use Rattle.protocol.specs.Calls.{OpenedSender, openSenderOf, Sent, sendOf, OpenedReceiver, openReceiverOf, Reported}
 use Rattle.protocol.specs.TwoLists.{Send, SendMade, sends, Report, reportOf, rowOf, ReportMade, reports}
-use Rattle.protocol.specs.Histories.{Bytes, SentAs, messageAt, accepts, Heard}
+use Rattle.protocol.specs.Histories.{SentAs, messageAt, accepts, Heard}
 
 -- ---- words
-
--- multipliers of G's rows that are bytes: those of a word
-abbrev pub OfWord : (ℕ → ℕ) → Type 0
-OfWord u = (r : ℕ) → u r < 256
 
 -- the first k symbols of the word are x
 abbrev pub Begins : Settings → (ℕ → ℕ) → (ℕ → ℕ) → Type 0

@@ -2,13 +2,13 @@
 use mathlib.Core.Path.{_≡_}
 use mathlib.Core.List.{List, [], _∷_, map, List·Memᴰ}
 use Prim.Native.Nat.{ℕ}
+use Rattle.galois.specs.Byte.{Bytes}
 use Rattle.code.specs.declared.settings.Settings.{Settings}
 use Rattle.protocol.specs.declared.Sender.{Sender}
 use Rattle.protocol.specs.declared.Receiver.{Receiver}
 use Rattle.protocol.specs.Numbers.{answerNumber}
 use Rattle.protocol.specs.Calls.{OpenedSender, openSenderOf, sendOf, OpenedReceiver, openReceiverOf}
 use Rattle.protocol.specs.TwoLists.{Send, SendMade, sends, Report, reportOf, ReportMade, reports}
-use Rattle.protocol.specs.Histories.{Bytes}
 use Rattle.protocol.specs.Claim.{Faithful, Holds}
 
 -- what the contract of a send ensures, and those of both reports

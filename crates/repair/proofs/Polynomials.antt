@@ -6,10 +6,10 @@ use Prim.Native.Nat.{ℕ, zero, suc, _≤_, _<_, suc-le-suc}
 use native.Mathlib.Nat.{le-of-suc-le-suc, not-suc-le-zero}
 use lib.Dec.{lit<}
 use lib.ListN.{length}
-use Rattle.galois.specs.Byte.{_⊕_, _⊗_}
+use Rattle.galois.specs.Byte.{Bytes, _⊕_, _⊗_}
 use Rattle.galois.proofs.Xor.{plus-below, plus-comm, plus-assoc, plus-zero, zero-plus, plus-exchange}
 use Rattle.galois.proofs.ByteProduct.{times-below, times-comm, times-assoc, times-zero, distributes, distributes-left}
-use Rattle.repair.specs.Polynomial.{value, Bytes}
+use Rattle.repair.specs.Polynomial.{value}
 
 -- the value of a polynomial is a byte
 pub value-below : (cs : List ℕ) → Bytes cs → (x : ℕ) → value cs x < 256

@@ -8,13 +8,13 @@ use native.Mathlib.Omega.{arith}
 use lib.Dec.{T, eqb, eqb→eq, eqb-refl}
 use lib.ListN.{length}
 use Rattle.galois.specs.Bounded.{count}
-use Rattle.galois.specs.Byte.{_⊕_, _⊗_}
+use Rattle.galois.specs.Byte.{Bytes, _⊕_, _⊗_}
 use Rattle.galois.proofs.Xor.{plus-below, plus-assoc, plus-zero, zero-plus, plus-self, plus-cancel}
 use Rattle.galois.proofs.ByteProduct.{times-zero}
 use Rattle.galois.proofs.Field.{no-zero-divisors}
 use Rattle.galois.proofs.ByteField.{bytes}
 use Rattle.galois.proofs.Counting.{count-mono}
-use Rattle.repair.specs.Polynomial.{value, Bytes}
+use Rattle.repair.specs.Polynomial.{value}
 use Rattle.repair.proofs.Polynomials.{value-below, regroup}
 
 -- ---- division by x + r

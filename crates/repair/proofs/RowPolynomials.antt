@@ -8,7 +8,7 @@ use native.Mathlib.Omega.{arith}
 use lib.Dec.{lit<}
 use lib.ListN.{length}
 use Rattle.galois.specs.Narrow.{_⊞_, narrowQuotient}
-use Rattle.galois.specs.Byte.{_⊕_, _⊗_, widen}
+use Rattle.galois.specs.Byte.{Bytes, _⊕_, _⊗_, widen}
 use Rattle.galois.proofs.Xor.{plus-zero, zero-plus}
 use Rattle.galois.proofs.ByteProduct.{times-comm, times-assoc, times-zero}
 use Rattle.galois.proofs.NarrowField.{narrows, narrow-plus}
@@ -18,7 +18,7 @@ use Rattle.code.specs.Settings.{delayOf, kOf}
 use Rattle.code.specs.Matrix.{point, factor, product, spread}
 use Rattle.code.proofs.Shape.{Shape}
 use Rattle.code.proofs.Rows.{factor-once, factor-narrow, point-le, product-narrow}
-use Rattle.repair.specs.Polynomial.{value, Bytes}
+use Rattle.repair.specs.Polynomial.{value}
 use Rattle.repair.proofs.Polynomials.{scale, value-scale, length-scale, bytes-scale, linear, value-linear, length-linear}
 
 -- ---- the product over zero points, as a polynomial

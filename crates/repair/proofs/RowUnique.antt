@@ -9,7 +9,7 @@ use native.Mathlib.Omega.{arith}
 use lib.Dec.{T, eqb, eqb-refl, lit<}
 use lib.ListN.{length}
 use Rattle.galois.specs.Bounded.{count}
-use Rattle.galois.specs.Byte.{_⊕_, widen}
+use Rattle.galois.specs.Byte.{Bytes, _⊕_, widen}
 use Rattle.galois.proofs.Xor.{plus-self, plus-cancel}
 use Rattle.galois.proofs.Extension.{widen-narrow}
 use Rattle.galois.proofs.Counting.{count-split, count-all}
@@ -18,7 +18,7 @@ use Rattle.code.specs.Settings.{delayOf, kOf}
 use Rattle.code.specs.Matrix.{spread}
 use Rattle.code.proofs.Shape.{Shape}
 use Rattle.code.proofs.Rows.{spread-zero-low, spread-zero-high, spread-one}
-use Rattle.repair.specs.Polynomial.{value, Bytes}
+use Rattle.repair.specs.Polynomial.{value}
 use Rattle.repair.proofs.Polynomials.{add, value-add, length-add-le, bytes-add}
 use Rattle.repair.proofs.Roots.{roots}
 use Rattle.repair.proofs.RowPolynomials.{rowPolynomial, length-row, bytes-row, row-polynomial}

@@ -7,14 +7,14 @@ use native.Mathlib.Omega.{arith}
 use lib.Dec.{eqb}
 use lib.ListN.{length}
 use Rattle.galois.specs.Bounded.{count}
-use Rattle.galois.specs.Byte.{_⊕_, _⊗_, widen}
+use Rattle.galois.specs.Byte.{Bytes, _⊕_, _⊗_, widen}
 use Rattle.galois.specs.Sum.{sum}
 use Rattle.galois.proofs.Counting.{count-equal}
 use Rattle.code.specs.declared.settings.Settings.{Settings}
 use Rattle.code.specs.Settings.{kOf}
 use Rattle.code.specs.Matrix.{spread}
 use Rattle.code.proofs.Shape.{Shape}
-use Rattle.repair.specs.Polynomial.{value, Bytes}
+use Rattle.repair.specs.Polynomial.{value}
 use Rattle.repair.proofs.Polynomials.{scale, value-scale, length-scale, bytes-scale, add, value-add, length-add-le, bytes-add}
 use Rattle.repair.proofs.Roots.{roots}
 use Rattle.repair.proofs.RowPolynomials.{rowPolynomial, length-row, row-polynomial}
