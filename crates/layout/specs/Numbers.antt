@@ -1,14 +1,9 @@
--- Which answers, and which of the numbers that protocol's specs/Numbers.antt gives, are of a call that was accepted.
-use mathlib.Core.Bool.{Bool, true, false, not, _&&_}
+-- Which of the numbers that protocol's specs/Numbers.antt gives are of a call that was accepted.
+use mathlib.Core.Bool.{Bool, not, _&&_}
 use Prim.Native.Nat.{ℕ}
 use lib.Dec.{leb}
-use Rattle.protocol.specs.declared.Answer.{Answer}
-use Rattle.protocol.specs.declared.Answer.the-variants as answer
-
--- whether an opening or a send was accepted; `accepts` of protocol's specs/Histories.antt says it of a report
-abbrev pub taken : Answer → Bool
-taken answer.Accepted = true
-taken (answer.Refused c) = false
+-- the same of an opening's or a send's answer
+pub use Rattle.protocol.specs.Histories.{isAccepted as taken}
 
 -- the numbers of a refusal: a cause's, 1 to 6
 abbrev pub refusal : ℕ → Bool

@@ -3,9 +3,8 @@ use protocol::Answer;
 use protocol::Reply;
 use protocol::number_of;
 ghost use mathlib.Core.Path.{_≡_};
-ghost use Rattle.protocol.specs.Claim.{accepts};
+ghost use Rattle.protocol.specs.Histories.{accepts, isAccepted};
 ghost use Rattle.protocol.specs.Numbers.{answerNumber, replyNumber};
-ghost use Rattle.layout.specs.Numbers.{taken};
 
 // The number of what an opening or a send answers.
 pub(crate) fn answer_number(answer: Answer) -> u32
@@ -32,7 +31,7 @@ pub(crate) fn reply_number(reply: Reply) -> u32
 
 // Whether an opening or a send was accepted.
 pub(crate) fn answer_taken(answer: Answer) -> bool
-    ensures { λ r. ⌜ r ≡ taken answer ⌝ }
+    ensures { λ r. ⌜ r ≡ isAccepted answer ⌝ }
 {
     match answer {
         Answer::Accepted => true,
@@ -41,7 +40,7 @@ pub(crate) fn answer_taken(answer: Answer) -> bool
 }
 
 // Whether a report was accepted.
-pub(crate) fn reply_taken(reply: Reply) -> bool
+pub fn reply_taken(reply: Reply) -> bool
     ensures { λ r. ⌜ r ≡ accepts reply ⌝ }
 {
     match reply {

@@ -11,14 +11,14 @@ ghost use mathlib.Core.Path.{_≡_};
 ghost use lib.ListN.{length};
 ghost use Rattle.protocol.specs.Claim.{accepts};
 ghost use Rattle.protocol.specs.Numbers.{answerNumber, replyNumber};
-ghost use Rattle.layout.specs.Numbers.{taken};
+ghost use Rattle.protocol.specs.Histories.{isAccepted};
 ghost use Rattle.state.specs.State.{stateLen, saved};
 
 // After an opening or a send, with the bytes of its state.
 pub fn save_answer(answer: Answer, bytes: [u8; STATE_LEN], state: &mut [u8]) -> u32
     requires { ⌜ length (now state) ≡ stateLen ⌝ }
     ensures number { λ r. ⌜ r ≡ answerNumber answer ⌝ }
-    ensures state { λ _. ⌜ now (state .exit) ≡ saved (taken answer) bytes (now (state .entry)) ⌝ }
+    ensures state { λ _. ⌜ now (state .exit) ≡ saved (isAccepted answer) bytes (now (state .entry)) ⌝ }
 {
     save(answer_taken(answer), bytes, state);
     answer_number(answer)

@@ -15,13 +15,12 @@ use Rattle.protocol.specs.declared.Answer.{Answer}
 use Rattle.protocol.specs.declared.Answer.the-variants as answer
 use Rattle.protocol.specs.Causes.{numberOf, row, firstOf, sendTable, lossTable, frameTable, openCause, sendCause, lossCause, frameCause, frameCauseOf}
 use Rattle.protocol.specs.Calls.{OpenedSender, OpenedReceiver, Sent, Reported, openSenderOf, sendOf, openReceiverOf, movedOn, heardOf, lossOf}
-use Rattle.protocol.specs.Histories.{accepts}
+use Rattle.protocol.specs.Histories.{isAccepted, accepts}
 use Rattle.protocol.proofs.CauseTables.{followedBy, one-below}
 use Rattle.protocol.proofs.ReportRows.{moved-accepts}
 use Rattle.frames.specs.Fields.{settingsAt}
 use Rattle.state.specs.State.{senderEnd, receiverEnd, senderBytes, receiverBytes, saved, stateLen, senderIn, receiverIn, stateTable, stateCause}
 use Rattle.protocol.specs.Numbers.{answerNumber, replyNumber}
-use Rattle.layout.specs.Numbers.{taken}
 use Rattle.library.specs.Causes.{openBytesCause, sendBytesCause, heardBytesCause, lostBytesCause}
 use Rattle.library.specs.Calls.{settingsOf, lengthFor, Opening, openSenderBytes, openReceiverBytes, Sending, sendBytes, Reporting, reportedBytes, heardBytes, lostBytes}
 
@@ -70,7 +69,7 @@ module _ (state rows message : List ℕ) where
 abbrev pub senderLeft : List ℕ → OpenedSender → Opening
 senderLeft state r = record {
   reply = answerNumber (r .answer);
-  state = saved (taken (r .answer)) (senderBytes (r .sender)) state;
+  state = saved (isAccepted (r .answer)) (senderBytes (r .sender)) state;
   rows = r .rows;
 }
 
@@ -78,7 +77,7 @@ senderLeft state r = record {
 abbrev pub receiverLeft : List ℕ → OpenedReceiver → Opening
 receiverLeft state r = record {
   reply = answerNumber (r .answer);
-  state = saved (taken (r .answer)) (receiverBytes (r .receiver)) state;
+  state = saved (isAccepted (r .answer)) (receiverBytes (r .receiver)) state;
   rows = r .rows;
 }
 
@@ -120,7 +119,7 @@ module _ (settings state rows : List ℕ) where
 abbrev pub sendLeft : List ℕ → Sent → Sending
 sendLeft state r = record {
   reply = answerNumber (r .answer);
-  state = saved (taken (r .answer)) (senderBytes (r .sender)) state;
+  state = saved (isAccepted (r .answer)) (senderBytes (r .sender)) state;
   rows = r .rows;
   frame = r .frame;
 }

@@ -1,9 +1,9 @@
 // How far a player is: what it keeps between two steps, and what a step tells on a lent line, a refusal or a report.
+use layout::reply_taken;
 use lines::write_line;
 use lines::write_stop;
 use protocol::Cause;
 use protocol::Receiver;
-use protocol::Reply;
 use receiver::Reported;
 ghost use mathlib.Core.Path.{_≡_};
 ghost use mathlib.Core.Bool.{true};
@@ -37,19 +37,6 @@ fn about(x: Receiver) -> u32
         return 0;
     }
     x.due - delay
-}
-
-// Whether a report was refused.
-fn refused(r: Reply) -> bool
-    ensures { λ b. ⌜ b ≡ refuses r ⌝ }
-{
-    match r {
-        Reply::Refused(_) => true,
-        Reply::NoneYet => false,
-        Reply::Whole => false,
-        Reply::Lost => false,
-        Reply::Clash => false,
-    }
 }
 
 // A refusal is the last step.
@@ -86,6 +73,6 @@ pub fn told(x: Receiver, offset: usize, r: Reported, message: &[u8], line: &mut 
             offset: offset,
         },
         len: len,
-        over: refused(reply),
+        over: !reply_taken(reply),
     }
 }

@@ -1,6 +1,7 @@
 -- There is room, so the line is that of the report.
 use borrow.Author.Needs.{needs}
 use mathlib.Core.Path.{refl, ap, _∙_}
+use mathlib.Core.Bool.{not}
 use Prim.Native.Nat.{ℕ}
 use denote.Ref.{now}
 use lib.ListN.{length}
@@ -22,7 +23,7 @@ returns c =
     let wrote = line-parts (number .result) (a .r .reply) (now (a .message)) (now (a .line)) _ _ (called .write-line .ensures) (start .pre) in
     let len = wrote .0 ∙ ap (λ (t : ℕ). length (lineOf t (a .r .reply) (now (a .message)))) same in
     let line = wrote .1 ∙ ap (λ (t : ℕ). written (lineOf t (a .r .reply) (now (a .message))) (now (a .line))) same in
-    (refl, (len, (c .refused .ensures, line)))
+    (refl, (len, (ap not (c .reply-taken .ensures), line)))
 
 pub told-spec : {M : Type 1} → statement M
 told-spec =
