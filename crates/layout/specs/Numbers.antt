@@ -5,9 +5,9 @@ use lib.Dec.{leb}
 -- the same of an opening's or a send's answer
 pub use Rattle.protocol.specs.Histories.{isAccepted as taken}
 
--- the numbers of a refusal: a cause's, 1 to 6
+-- the numbers of a refusal: the causes' of all documents, 1 to 15, whichever of them a version has; other replies are 0, or 16 and above
 abbrev pub refusal : ℕ → Bool
-refusal n = leb 1 n && leb n 6
+refusal n = leb 1 n && leb n 15
 
 -- and all others are of a call that was accepted
 abbrev pub acceptance : ℕ → Bool
