@@ -1,61 +1,13 @@
--- The loop fills the bytes from the front, each with the low halves of two coefficients.
-use mathlib.Core.Path.{_≡_, refl}
-use mathlib.Core.List.{[]}
-use native.Mathlib.Nat.{not-suc-le-zero}
-use native.Mathlib.Omega.{arith}
-use Prim.Native.Nat.{ℕ, _+_, _-_, _*_, _%_, _<_, _≤_, zero-le}
-use denote.Ref.{now}
-use lib.ListN.{length, getD, length-set}
-use Rattle.galois.proofs.ByIndex.{filled-more}
-use Rattle.halves.proofs.Planes.{packed}
+-- A byte divided by 1 is the byte.
+use borrow.Author.Needs.{needs}
+use mathlib.Core.Path.{ap, _∙_}
+use Prim.Native.Nat.{ℕ, _%_}
+use native.Mathlib.Nat.{div-one}
 use Rattle.halves.proofs.low_halves.Statement.{statement}
 use Rattle.halves.proofs.low_halves.Tie as tie
 
-abbrev Inv-loop : tie.InvT-loop
-Inv-loop rows q count out₀ j₀ out j =
-    (j ≤ count) × (length out ≡ 8)
-    × ((k : ℕ) → k < j → getD out k 0 ≡ getD (getD rows (2 * k) []) q 0 % 16 + getD (getD rows (2 * k + 1) []) q 0 % 16 * 16)
-
-abbrev μ-loop : tie.MeasureT-loop
-μ-loop rows q count out₀ j₀ out j = count - j
-
-loop-again : tie.Need-loop-again Inv-loop μ-loop
-loop-again c =
-    let at-loop = c .before .before .before in
-    let at = at-loop .loop in
-    let a = at-loop .before .args in
-    let coefficient : ℕ → ℕ = λ i. getD (getD (now (a .rows)) i []) (a .q) 0 in (
-      omega arith,
-      simp length-set (at .inv .1),
-      filled-more (λ k. coefficient (2 * k) % 16 + coefficient (2 * k + 1) % 16 * 16) 0 (at .out) (at .j) _ (omega arith) refl (at .inv .2),
-    )
-
-returns : tie.Need-returns Inv-loop μ-loop
-returns c =
-    let at = c .before .loop in
-    let a = c .before .before .args in
-    packed (at .out) (λ i. getD (getD (now (a .rows)) i []) (a .q) 0) (a .count) (λ k h. at .inv .2 k (omega arith))
+returns : tie.Need-returns
+returns c i h = c .halves .ensures i h ∙ ap (λ (x : ℕ). x % 16) (div-one _)
 
 pub low-halves-spec : {M : Type 1} → statement M
-low-halves-spec =
-    tie.close
-    (tie.spec
-    Inv-loop
-    μ-loop
-    (λ c. (zero-le, refl, λ k h. absurd (not-suc-le-zero h)))
-    (λ c. omega arith)
-    (λ c. omega arith)
-    (λ c. omega arith)
-    (λ c. omega arith)
-    (λ c. omega arith)
-    (λ c. omega arith)
-    (λ c. omega arith)
-    (λ c. omega arith)
-    (λ c. omega arith)
-    (λ c. omega arith)
-    (λ c. omega arith)
-    (λ c. omega arith)
-    (λ c. omega arith)
-    (λ c. omega arith)
-    loop-again
-    returns)
+low-halves-spec = tie.close (tie.spec (λ c κs. search needs) returns)

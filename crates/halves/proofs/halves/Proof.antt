@@ -1,4 +1,4 @@
--- The loop fills the bytes from the front, each with the high halves of two coefficients.
+-- The loop fills the bytes from the front, each with the halves of two coefficients.
 use mathlib.Core.Path.{_≡_, refl}
 use mathlib.Core.List.{[]}
 use native.Mathlib.Nat.{not-suc-le-zero}
@@ -8,36 +8,36 @@ use denote.Ref.{now}
 use lib.ListN.{length, getD, length-set}
 use Rattle.galois.proofs.ByIndex.{filled-more}
 use Rattle.halves.proofs.Planes.{packed}
-use Rattle.halves.proofs.high_halves.Statement.{statement}
-use Rattle.halves.proofs.high_halves.Tie as tie
+use Rattle.halves.proofs.halves.Statement.{statement}
+use Rattle.halves.proofs.halves.Tie as tie
 
 abbrev Inv-loop : tie.InvT-loop
-Inv-loop rows q count out₀ j₀ out j =
+Inv-loop rows q count unit out₀ j₀ out j =
     (j ≤ count) × (length out ≡ 8)
-    × ((k : ℕ) → k < j → getD out k 0 ≡ getD (getD rows (2 * k) []) q 0 / 16 % 16 + getD (getD rows (2 * k + 1) []) q 0 / 16 % 16 * 16)
+    × ((k : ℕ) → k < j → getD out k 0 ≡ getD (getD rows (2 * k) []) q 0 / unit % 16 + getD (getD rows (2 * k + 1) []) q 0 / unit % 16 * 16)
 
 abbrev μ-loop : tie.MeasureT-loop
-μ-loop rows q count out₀ j₀ out j = count - j
+μ-loop rows q count unit out₀ j₀ out j = count - j
 
 loop-again : tie.Need-loop-again Inv-loop μ-loop
 loop-again c =
     let at-loop = c .before .before .before in
     let at = at-loop .loop in
     let a = at-loop .before .args in
-    let coefficient : ℕ → ℕ = λ i. getD (getD (now (a .rows)) i []) (a .q) 0 in (
+    let half : ℕ → ℕ = λ i. getD (getD (now (a .rows)) i []) (a .q) 0 / a .unit % 16 in (
       omega arith,
       simp length-set (at .inv .1),
-      filled-more (λ k. coefficient (2 * k) / 16 % 16 + coefficient (2 * k + 1) / 16 % 16 * 16) 0 (at .out) (at .j) _ (omega arith) refl (at .inv .2),
+      filled-more (λ k. half (2 * k) + half (2 * k + 1) * 16) 0 (at .out) (at .j) _ (omega arith) refl (at .inv .2),
     )
 
 returns : tie.Need-returns Inv-loop μ-loop
 returns c =
     let at = c .before .loop in
     let a = c .before .before .args in
-    packed (at .out) (λ i. getD (getD (now (a .rows)) i []) (a .q) 0 / 16) (a .count) (λ k h. at .inv .2 k (omega arith))
+    packed (at .out) (λ i. getD (getD (now (a .rows)) i []) (a .q) 0 / a .unit) (a .count) (λ k h. at .inv .2 k (omega arith))
 
-pub high-halves-spec : {M : Type 1} → statement M
-high-halves-spec =
+pub halves-spec : {M : Type 1} → statement M
+halves-spec =
     tie.close
     (tie.spec
     Inv-loop
