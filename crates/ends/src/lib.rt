@@ -1,10 +1,12 @@
-// The states of both ends, made here alone, as protocol's specs/States.antt says.
+// What both ends share in code: their states, made here alone, as protocol's specs/States.antt says; and whether a report was accepted.
 use code::Settings;
 use protocol::Receiver;
+use protocol::Reply;
 use protocol::Sender;
 ghost use mathlib.Core.Path.{_≡_};
 ghost use Prim.Native.Nat.{_≤_};
 ghost use Rattle.protocol.specs.Lengths.{lastSlot};
+ghost use Rattle.protocol.specs.Histories.{accepts};
 ghost use Rattle.protocol.specs.States.{senderAt, openedSender, sentOn, receiverAt, openedReceiver, reportedOn};
 
 // A sender with these settings and this slot due.
@@ -57,4 +59,17 @@ pub fn next_receiver(x: Receiver) -> Receiver
 {
     let s = x.settings;
     receiver_at(s, x.due + 1)
+}
+
+// Whether a report was accepted.
+pub fn reply_taken(reply: Reply) -> bool
+    ensures { λ r. ⌜ r ≡ accepts reply ⌝ }
+{
+    match reply {
+        Reply::Refused(c) => false,
+        Reply::NoneYet => true,
+        Reply::Whole => true,
+        Reply::Lost => true,
+        Reply::Clash => true,
+    }
 }

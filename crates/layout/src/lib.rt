@@ -4,6 +4,5 @@ mod numbers;
 mod outcomes;
 
 pub use lengths::or_zero;
-pub use numbers::reply_taken;
 pub use outcomes::save_answer;
 pub use outcomes::save_reply;

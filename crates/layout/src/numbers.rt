@@ -1,9 +1,9 @@
-// The number of each reply, and whether the call was taken.
+// The number of each answer and reply, and whether an opening or a send was taken.
 use protocol::Answer;
 use protocol::Reply;
 use protocol::number_of;
 ghost use mathlib.Core.Path.{_≡_};
-ghost use Rattle.protocol.specs.Histories.{accepts, isAccepted};
+ghost use Rattle.protocol.specs.Histories.{isAccepted};
 ghost use Rattle.protocol.specs.Numbers.{answerNumber, replyNumber};
 
 // The number of what an opening or a send answers.
@@ -36,18 +36,5 @@ pub(crate) fn answer_taken(answer: Answer) -> bool
     match answer {
         Answer::Accepted => true,
         Answer::Refused(c) => false,
-    }
-}
-
-// Whether a report was accepted.
-pub fn reply_taken(reply: Reply) -> bool
-    ensures { λ r. ⌜ r ≡ accepts reply ⌝ }
-{
-    match reply {
-        Reply::Refused(c) => false,
-        Reply::NoneYet => true,
-        Reply::Whole => true,
-        Reply::Lost => true,
-        Reply::Clash => true,
     }
 }

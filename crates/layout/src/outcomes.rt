@@ -2,16 +2,15 @@
 use crate::numbers::answer_number;
 use crate::numbers::answer_taken;
 use crate::numbers::reply_number;
-use crate::numbers::reply_taken;
+use ends::reply_taken;
 use protocol::Answer;
 use protocol::Reply;
 use state::STATE_LEN;
 use state::save;
 ghost use mathlib.Core.Path.{_≡_};
 ghost use lib.ListN.{length};
-ghost use Rattle.protocol.specs.Claim.{accepts};
+ghost use Rattle.protocol.specs.Histories.{isAccepted, accepts};
 ghost use Rattle.protocol.specs.Numbers.{answerNumber, replyNumber};
-ghost use Rattle.protocol.specs.Histories.{isAccepted};
 ghost use Rattle.state.specs.State.{stateLen, saved};
 
 // After an opening or a send, with the bytes of its state.

@@ -1,5 +1,5 @@
 // How far a player is: what it keeps between two steps, and what a step tells on a lent line, a refusal or a report.
-use layout::reply_taken;
+use ends::reply_taken;
 use lines::write_line;
 use lines::write_stop;
 use protocol::Cause;
