@@ -1,5 +1,5 @@
 -- What each way out of a call gives back: where the state gives a cause, that refusal; else what protocol's call leaves.
-use mathlib.Core.Path.{_≡_, refl}
+use mathlib.Core.Path.{_≡_, refl, ap, _∙_}
 use mathlib.Core.Bool.{Bool, true, false, cond, not, _&&_}
 use mathlib.Core.List.{List, [], _∷_}
 use Prim.Native.Nat.{ℕ}
@@ -26,10 +26,12 @@ use Rattle.library.specs.Calls.{settingsOf, lengthFor, Opening, openSend
 
 -- ---- lengths
 
-pub length-for : (size : Settings → ℕ) (settings : List ℕ)
-    → cond (accepted (settingsAt 0 settings)) (size (settingsAt 0 settings)) 0 ≡ lengthFor size settings
+-- by the settings that were read, the length that they give, and that length or 0
+pub length-for : (size : Settings → ℕ) (settings : List ℕ) {s : Settings} {m r : ℕ} → s ≡ settingsAt 0 settings → m ≡ size s
+    → r ≡ cond (accepted s) m 0 → r ≡ lengthFor size settings
 unfolding settingsOf lengthFor
-length-for size settings = refl
+length-for size settings {s} read given or-zero =
+    or-zero ∙ ap (λ (n : ℕ). cond (accepted s) n 0) given ∙ ap (λ (x : Settings). cond (accepted x) (size x) 0) read
 
 -- ---- causes
 
