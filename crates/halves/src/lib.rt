@@ -7,7 +7,7 @@ ghost use Rattle.halves.specs.Halves.{halfOf, Under};
 
 // The halves of the coefficients in column q, two in a byte: that of vector 2j below that of vector 2j + 1. The unit is 1 for the low
 // halves, and 16 for the high ones.
-fn halves(rows: &[[u8; 16]; 16], q: usize, count: usize, unit: u8) -> [u8; 8]
+fn pack_halves(rows: &[[u8; 16]; 16], q: usize, count: usize, unit: u8) -> [u8; 8]
     requires { ⌜ (q < 16) × (count ≤ 8) × (0 < unit) ⌝ }
     ensures { λ r. ⌜ ((i : ℕ) → i < count * 2 → halfOf r i ≡ getD (getD (now (rows .entry)) i []) q 0 / unit % 16) ⌝ }
 {
@@ -25,7 +25,7 @@ pub fn low_halves(rows: &[[u8; 16]; 16], q: usize, count: usize) -> [u8; 8]
     requires { ⌜ (q < 16) × (count ≤ 8) ⌝ }
     ensures { λ r. ⌜ ((i : ℕ) → i < count * 2 → halfOf r i ≡ getD (getD (now (rows .entry)) i []) q 0 % 16) ⌝ }
 {
-    halves(rows, q, count, 1)
+    pack_halves(rows, q, count, 1)
 }
 
 // The high halves.
@@ -33,7 +33,7 @@ pub fn high_halves(rows: &[[u8; 16]; 16], q: usize, count: usize) -> [u8; 8]
     requires { ⌜ (q < 16) × (count ≤ 8) ⌝ }
     ensures { λ r. ⌜ ((i : ℕ) → i < count * 2 → halfOf r i ≡ getD (getD (now (rows .entry)) i []) q 0 / 16 % 16) ⌝ }
 {
-    halves(rows, q, count, 16)
+    pack_halves(rows, q, count, 16)
 }
 
 // The bits that some byte of halves has: no half of such a byte is above theirs.

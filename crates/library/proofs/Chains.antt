@@ -33,14 +33,18 @@ use Rattle.state.proofs.KeptStates.{state-uncaused, sender-in-state, receiver-i
 use Rattle.layout.proofs.Refusals.{cause-refused, reply-accepted}
 use Rattle.library.specs.Calls.{settingsOf, Opening, openSenderBytes, openReceiverBytes, Sending, sendBytes, Reporting}
 use Rattle.library.specs.Chains.{dueAfter, SendDone, sendsBytes, reportBytes, ReportDone, reportsBytes}
-use Rattle.library.proofs.Outcomes.{senderLeft, sender-uncaused, receiverLeft, receiver-uncaused, sendLeft, send-uncaused, reportLeft, heard-uncaused, lost-uncaused}
+use Rattle.library.proofs.Outcomes.{sender-uncaused, receiver-uncaused}
+use Rattle.library.proofs.Outcomes.{sendLeft, send-uncaused, reportLeft, heard-uncaused, lost-uncaused}
+
+-- the bytes are a state of this end, and keep x
+pub record Keeps {X : Type 0} (end : ℕ) (read : List ℕ → X) (state : List ℕ) (x : X) : Type 0 where
+  pub uncaused : stateCause end state ≡ answer.Accepted
+  pub reads : read state ≡ x
 
 -- ---- the sender
 
--- the bytes are a sender's state, and keep this sender
-pub record KeepsSender (state : List ℕ) (x : Sender) : Type 0 where
-  pub uncaused : stateCause senderEnd state ≡ answer.Accepted
-  pub reads : senderIn state ≡ x
+abbrev pub KeepsSender : List ℕ → Sender → Type 0
+KeepsSender = Keeps senderEnd senderIn
 
 -- a state that was written keeps what it was written from
 kept-sender : (x : Sender) → x .due ≤ lastSlot + 1 → KeepsSender (senderBytes x) x
@@ -55,15 +59,8 @@ pub opened-sender-read : (settings state rows : List ℕ) → T (accepted (setti
 unfolding settingsOf
 opened-sender-read settings state rows ok room full =
     let s : Settings = settingsAt 0 settings in
-    subst
-    (λ (b : Opening).
-    (b .reply ≡ 0) × (b .rows ≡ openSenderOf s rows .rows) × KeepsSender (b .state) (openSenderOf s rows .sender))
-    (sender-uncaused settings state rows (open-clear s stateLen state ok room))
-    (subst⁻¹
-    (λ (r : OpenedSender).
-    (senderLeft state r .reply ≡ 0) × (senderLeft state r .rows ≡ r .rows) × KeepsSender (senderLeft state r .state) (r .sender))
-    (sending.opened-sender s rows ok full)
-    (refl, refl, kept-sender (openedSender s) (omega arith)))
+    rw (sym (sender-uncaused settings state rows (open-clear s stateLen state ok room)), sending.opened-sender s rows ok full)
+    (refl, refl, kept-sender (openedSender s) (omega arith))
 
 -- a send by the library: what it leaves, the sender that the next call reads, and the slot due then
 pub record SendStep (state rows message frame : List ℕ) (x : Sender) : Type 0 where
@@ -89,11 +86,7 @@ module _ (state rows message frame : List ℕ) (none : stateCause senderEnd stat
   sent-step =
       let same = sym (send-uncaused state rows message frame none) in
       let next = sent-next (sending.send-case x rows message frame) in
-      record {
-        same = same;
-        next = subst⁻¹ (λ (b : Sending). KeepsSender (b .state) (sendOf x rows message frame .sender)) same (next .0);
-        due = next .1 ∙ ap (λ (b : Sending). dueAfter (x .due) (b .reply)) (sym same);
-      }
+      record { same = same; next = rw same (next .0); due = rw same (next .1) }
 
 pub send-step : (state rows message frame : List ℕ) (x : Sender) → KeepsSender state x → SendStep state rows message frame x
 send-step state rows message frame x k =
@@ -130,10 +123,8 @@ sends-read (c ∷ cs) due state rows x k e =
 
 -- ---- the receiver
 
--- the bytes are a receiver's state, and keep this receiver
-pub record KeepsReceiver (state : List ℕ) (y : Receiver) : Type 0 where
-  pub uncaused : stateCause receiverEnd state ≡ answer.Accepted
-  pub reads : receiverIn state ≡ y
+abbrev pub KeepsReceiver : List ℕ → Receiver → Type 0
+KeepsReceiver = Keeps receiverEnd receiverIn
 
 kept-receiver : (y : Receiver) → y .due ≤ lastSlot + 1 → KeepsReceiver (receiverBytes y) y
 kept-receiver y few = record { uncaused = state-uncaused receiverEnd (y .settings) (y .due); reads = receiver-in-state y few }
@@ -147,16 +138,8 @@ pub opened-receiver-read : (settings state rows : List ℕ) → T (accepted (set
 unfolding settingsOf
 opened-receiver-read settings state rows ok room full =
     let s : Settings = settingsAt 0 settings in
-    subst
-    (λ (b : Opening).
-    (b .reply ≡ 0) × (b .rows ≡ openReceiverOf s rows .rows) × KeepsReceiver (b .state) (openReceiverOf s rows .receiver))
-    (receiver-uncaused settings state rows (open-clear s stateLen state ok room))
-    (subst⁻¹
-    (λ (r : OpenedReceiver).
-    (receiverLeft state r .reply ≡ 0) × (receiverLeft state r .rows ≡ r .rows)
-    × KeepsReceiver (receiverLeft state r .state) (r .receiver))
-    (reporting.opened-receiver s ok rows full)
-    (refl, refl, kept-receiver (openedReceiver s) (omega arith)))
+    rw (sym (receiver-uncaused settings state rows (open-clear s stateLen state ok room)), reporting.opened-receiver s ok rows full)
+    (refl, refl, kept-receiver (openedReceiver s) (omega arith))
 
 -- a report by the library: what it leaves, the receiver that the next call reads, and the slot due then
 pub record ReportStep (state rows : List ℕ) (call : Report) (y : Receiver) : Type 0 where
@@ -212,11 +195,7 @@ module _ (state rows : List ℕ) (none : stateCause receiverEnd state ≡ answer
   reported-step call =
       let same = report-same call in
       let next = report-next call in
-      record {
-        same = same;
-        next = subst⁻¹ (λ (b : Reporting). KeepsReceiver (b .state) (reportOf y rows call .receiver)) same (next .0);
-        due = next .1 ∙ ap (λ (b : Reporting). dueAfter (y .due) (b .reply)) (sym same);
-      }
+      record { same = same; next = rw same (next .0); due = rw same (next .1) }
 
 pub report-step : (state rows : List ℕ) (call : Report) (y : Receiver) → KeepsReceiver state y → ReportStep state rows call y
 report-step state rows call y k = subst (ReportStep state rows call) (k .reads) (reported-step state rows (k .uncaused) call)

@@ -3,15 +3,15 @@
 mod random;
 mod word;
 
+use buffers::receiver_len;
+use buffers::row_len;
 use code::Settings;
-ghost use mathlib.Core.Bool.{cond};
 ghost use mathlib.Core.Path.{_≡_};
 ghost use Prim.Native.Nat.{_<_};
-ghost use lib.Dec.{T, ltb};
-ghost use lib.ListN.{getD};
-ghost use Rattle.galois.specs.Table.{table};
-ghost use Rattle.code.specs.Settings.{accepted, kOf, nOf};
-ghost use Rattle.elimination.specs.Elimination.{firstRoles, knownIn};
+ghost use lib.Dec.{T};
+ghost use lib.ListN.{length};
+ghost use Rattle.code.specs.Settings.{accepted, kOf};
+ghost use Rattle.protocol.specs.Lengths.{receiverLen};
 
 fn print_field(n: u64) {
     io::print_decimal(1, n);
@@ -35,51 +35,53 @@ fn print_answer(mark: u8, byte: u8) {
     }
 }
 
-// The roles at the start: each source whose flag is 1 is the pivot of its own row.
-fn first_roles(s: Settings, flags: &[u8; 16]) -> [u8; 16]
-    requires { ⌜ T (accepted s) ⌝ }
-    ensures { λ r. ⌜ r ≡ firstRoles s (knownIn s (now (flags .entry))) ⌝ }
+// The receiver's rows in which a codeword arrived that starts at slot 0: position p in row p, after its flag.
+fn arrive(s: Settings, flags: &[u8; 16], bytes: &[u8; 16], rows: &mut [u8])
+    requires { ⌜ T (accepted s) × (s .lanes ≡ 1) × (length (now rows) ≡ receiverLen s) ⌝ }
 {
-    let mut roles = [16u8; 16];
+    let size = row_len(s);
     let mut p: usize = 0;
-    while p < s.sources() {
-        if flags[p] == 1 {
-            roles[p] = p as u8;
-        }
+    while p < s.symbols() {
+        rows[p * size] = flags[p];
+        rows[p * size + 1 + p] = bytes[p];
         p += 1;
     }
-    roles
 }
 
-// The flags of the parity positions, and 0 at all others.
-fn parities(s: Settings, flags: &[u8; 16]) -> [u8; 16]
-    requires { ⌜ T (accepted s) ⌝ }
-    ensures { λ r. ⌜ r ≡ table 16 (λ q. cond (ltb q (nOf s)) (cond (ltb q (kOf s)) 0 (getD (now (flags .entry)) q 0)) 0) ⌝ }
+// What is told of symbol i of message i, once all slots of that codeword are reported.
+fn told(
+    s: Settings,
+    flags: &[u8; 16],
+    bytes: &[u8; 16],
+    i: usize,
+    rows: &mut [u8],
+    symbol: &mut [u8],
+) -> u8
+    requires { ⌜
+        T (accepted s)
+        × (s .lanes ≡ 1)
+        × (length (now rows) ≡ receiverLen s)
+        × (length (now symbol) ≡ 1)
+        × (i < kOf s)
+        ⌝ }
 {
-    let mut left = [0u8; 16];
-    let mut q = s.sources();
-    while q < s.symbols() {
-        left[q] = flags[q];
-        q += 1;
-    }
-    left
+    arrive(s, flags, bytes, rows);
+    let matrix = encoder::systematic(s);
+    let reciprocals = gf256::reciprocals();
+    symbols::write_symbol(s, rows, s.symbols(), i, i, matrix, &reciprocals, symbol)
 }
 
-// One pattern of loss. Of the flags of the parity positions elimination leaves those that are to be checked.
+// One pattern of loss, with room for the rows of any settings.
 fn pattern(s: Settings, j: u8, x: &mut u64)
     requires { ⌜ T (accepted s) × (s .lanes ≡ 1) ⌝ }
 {
     let i = random::below(x, s.sources());
     let flags = random::flags(x);
     let bytes = word::arrived(s, j, x);
-    let places = [0usize, 1, 2, 3, 4, 5, 6, 7, 8, 9, 10, 11, 12, 13, 14, 15];
-    let mut roles = first_roles(s, &flags);
-    let mut left = parities(s, &flags);
-    let matrix = encoder::systematic(s);
-    let reciprocals = gf256::reciprocals();
-    let rows = reduction::eliminate(s, &reciprocals, matrix, &mut left, &mut roles);
+    let mut rows = [0u8; 32800];
+    let end = receiver_len(s);
     let mut symbol = [0u8; 1];
-    let mark = lanes::answer(s, &rows, &roles, &left, &places, &bytes, i, &mut symbol);
+    let mark = told(s, &flags, &bytes, i, &mut rows[0..end], &mut symbol);
     print_field(s.delay as u64);
     print_field(s.burst as u64);
     print_field(s.scattered as u64);

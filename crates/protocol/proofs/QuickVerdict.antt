@@ -25,7 +25,7 @@ use Rattle.protocol.specs.Lengths.{messageLen, rowLen, rowCount}
 use Rattle.protocol.specs.States.{reportedOn}
 use Rattle.protocol.specs.Rows.{putRow}
 use Rattle.protocol.specs.Verdict.{arrived, symbolSaid, isClash, isLost, wholeByte, someCodeword}
-use Rattle.protocol.specs.Verdict.{byTests, verdictBy, bufferBy, verdict, bufferOf}
+use Rattle.protocol.specs.Verdict.{byTests, verdictBy, bufferBy, noneFits, twoDiffer, verdict, bufferOf}
 use Rattle.protocol.specs.declared.Answer.{Answer}
 use Rattle.protocol.specs.declared.Answer.the-variants as answer
 use Rattle.protocol.specs.Causes.{lossCause, frameCause}
@@ -162,7 +162,7 @@ module _ (s : Settings) (ok : T (accepted s)) (rows : List ℕ) (bytes : T (smal
 
   -- and the verdict is the one that elimination gives
   pub quick-verdict : verdict s rows due t ≡ verdictBy s quickly
-  unfolding verdict
+  unfolding verdict noneFits twoDiffer
   quick-verdict = ap₂ byTests (some-alike isClash) (some-alike isLost)
 
   -- and so is the message buffer
@@ -171,9 +171,9 @@ module _ (s : Settings) (ok : T (accepted s)) (rows : List ℕ) (bytes : T (smal
   quick-buffer (reply.Refused c) = refl
   quick-buffer reply.NoneYet = refl
   quick-buffer reply.Whole =
-      table-equal (messageLen s) (λ q. wholeByte (told (q / s .lanes) (q % s .lanes))) (λ q. wholeByte (quickly (q / s .lanes) (q % s .lanes)))
-      (λ q hq.
-      ap wholeByte (quick-symbol (q / s .lanes) (q % s .lanes) (div-lt-iff-lt-mul (shape s ok .lanes-positive) .1 hq)))
+      let byte : (ℕ → ℕ → Symbol) → ℕ → ℕ = λ f q. wholeByte (f (q / s .lanes) (q % s .lanes)) in
+      table-equal (messageLen s) (byte told) (byte quickly)
+      (λ q hq. ap wholeByte (quick-symbol (q / s .lanes) (q % s .lanes) (div-lt-iff-lt-mul (shape s ok .lanes-positive) .1 hq)))
   quick-buffer reply.Lost = refl
   quick-buffer reply.Clash = refl
 

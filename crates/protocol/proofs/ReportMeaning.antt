@@ -14,7 +14,7 @@ use Rattle.protocol.specs.declared.Reply.{Reply}
 use Rattle.protocol.specs.declared.Reply.the-variants as reply
 use Rattle.protocol.specs.Lengths.{rowLen, rowCount}
 use Rattle.protocol.specs.Rows.{putRow}
-use Rattle.protocol.specs.Verdict.{arrived, symbolSaid, someClash, someLost, byTests, verdict}
+use Rattle.protocol.specs.Verdict.{arrived, byTests, noneFits, twoDiffer, verdict}
 use Rattle.protocol.specs.declared.Answer.{Answer}
 use Rattle.protocol.specs.declared.Answer.the-variants as answer
 use Rattle.protocol.specs.Causes.{lossCause, frameCause}
@@ -61,7 +61,7 @@ module _ (s : Settings) (due t : ℕ) (r : Reported) (e : ByVerdict s due t r) w
 -- a verdict is never none yet
 verdict-told : (s : Settings) (rows : List ℕ) (due t : ℕ) → replyNumber (verdict s rows due t) ≡ 16 → ⊥
 unfolding verdict
-verdict-told s rows due t = go (someClash s (symbolSaid s rows due t)) (someLost s (symbolSaid s rows due t))
+verdict-told s rows due t = go (noneFits s rows due t) (twoDiffer s rows due t)
   where
     go : (a b : Bool) → replyNumber (byTests a b) ≡ 16 → ⊥
     go true b e = omega arith

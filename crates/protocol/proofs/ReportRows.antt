@@ -13,7 +13,7 @@ use Rattle.protocol.specs.declared.Reply.{Reply}
 use Rattle.protocol.specs.declared.Reply.the-variants as reply
 use Rattle.protocol.specs.Lengths.{bodyLen, frameLen, rowLen, rowCount}
 use Rattle.protocol.specs.Rows.{putRow}
-use Rattle.protocol.specs.Verdict.{symbolSaid, someClash, someLost, verdict}
+use Rattle.protocol.specs.Verdict.{noneFits, twoDiffer, verdict}
 use Rattle.protocol.specs.Calls.{messageDue, movedOn}
 use Rattle.protocol.specs.TwoLists.{Report, heard, missed, rowOf}
 use Rattle.protocol.specs.Histories.{accepts}
@@ -37,8 +37,8 @@ either false p q hp hq = hq
 verdict-accepts : (s : Settings) (rows : List ℕ) (due t : ℕ) → T (accepts (verdict s rows due t))
 unfolding verdict
 verdict-accepts s rows due t =
-    either (someClash s (symbolSaid s rows due t)) reply.Clash _ tt
-    (either (someLost s (symbolSaid s rows due t)) reply.Lost reply.Whole tt tt)
+    let lost : Bool = twoDiffer s rows due t in
+    either (noneFits s rows due t) reply.Clash (cond lost reply.Lost reply.Whole) tt (either lost reply.Lost reply.Whole tt tt)
 
 -- a report that moves on is never refused
 pub moved-accepts : (x : Receiver) (row rows : List ℕ) → T (accepts (movedOn x row rows .reply))

@@ -162,12 +162,12 @@ module _ (s : Settings) (rows : List ℕ) (due t : ℕ) where
 
   -- clash, exactly if some codeword that carries the message has no word that fits what arrived
   pub verdict-clash : (verdict s rows due t ≡ reply.Clash) ↔ SomeClash s what
-  unfolding verdict noneFits twoDiffer
+  unfolding verdict
   verdict-clash = (λ e. clash-means (first none two .0 e), λ c. first none two .1 (means-clash c))
 
   -- else lost, exactly if two fitting words differ in it
   pub verdict-lost : (verdict s rows due t ≡ reply.Lost) ↔ ((SomeClash s what → ⊥) × SomeLost s what)
-  unfolding verdict noneFits twoDiffer
+  unfolding verdict
   verdict-lost = (
     λ e. let x = second none two .0 e in ((λ c. x .0 (means-clash c)), lost-means (x .1)),
     λ x. second none two .1 ((λ h. x .0 (clash-means h)), means-lost (x .1)),
@@ -175,7 +175,7 @@ module _ (s : Settings) (rows : List ℕ) (due t : ℕ) where
 
   -- else whole
   pub verdict-else : (verdict s rows due t ≡ reply.Whole) ↔ ((SomeClash s what → ⊥) × (SomeLost s what → ⊥))
-  unfolding verdict noneFits twoDiffer
+  unfolding verdict
   verdict-else = (
     λ e. let x = third none two .0 e in ((λ c. x .0 (means-clash c)), λ l. x .1 (means-lost l)),
     λ x. third none two .1 ((λ h. x .0 (clash-means h)), λ h. x .1 (lost-means h)),
@@ -197,7 +197,7 @@ module _ (s : Settings) (rows : List ℕ) (due t : ℕ) where
   -- and then the message buffer holds them
   pub whole-bytes : verdict s rows due t ≡ reply.Whole
       → AllShare s what (λ i v. getD (bufferOf s rows due t (verdict s rows due t)) (i * s .lanes + v) 0)
-  unfolding bufferOf sharedBytes verdict noneFits twoDiffer
+  unfolding bufferOf sharedBytes verdict
   whole-bytes e i v hi hv =
       subst⁻¹ (λ (b : ℕ). Share s (Fitting s (what i v)) i b)
       (ap (λ (x : Reply). getD (bufferOf s rows due t x) (i * s .lanes + v) 0) e ∙ shared-byte i v hi hv)

@@ -97,7 +97,7 @@ twoDiffer s rows due t = someLost s (symbolSaid s rows due t)
 
 -- a clash if some codeword has no fitting word, else lost if two fitting words of some codeword differ in it, else whole
 unfoldable pub verdict : Settings → List ℕ → ℕ → ℕ → Reply
-verdict s rows due t = verdictBy s (symbolSaid s rows due t)
+verdict s rows due t = byTests (noneFits s rows due t) (twoDiffer s rows due t)
 
 -- the bytes that the fitting words share
 unfoldable pub sharedBytes : Settings → List ℕ → ℕ → ℕ → List ℕ

@@ -10,6 +10,7 @@ use lib.ListN.{length, getD}
 use borrow.Author.Tests.{eq-eqb}
 use Rattle.galois.specs.Byte.{_⊗_}
 use Rattle.galois.proofs.ByteProduct.{times-comm, times-zero, one-times}
+use Rattle.galois.proofs.Cases.{any-same}
 use Rattle.galois.proofs.Sums.{sum-single}
 use Rattle.code.specs.declared.settings.Settings.{Settings}
 use Rattle.code.specs.Settings.{accepted, kOf, nOf}

@@ -8,8 +8,8 @@ use denote.Ref.{now}
 use lib.ListN.{length, getD, length-set}
 use Rattle.galois.proofs.ByIndex.{filled-more}
 use Rattle.halves.proofs.Planes.{packed}
-use Rattle.halves.proofs.halves.Statement.{statement}
-use Rattle.halves.proofs.halves.Tie as tie
+use Rattle.halves.proofs.pack_halves.Statement.{statement}
+use Rattle.halves.proofs.pack_halves.Tie as tie
 
 abbrev Inv-loop : tie.InvT-loop
 Inv-loop rows q count unit out₀ j₀ out j =
@@ -36,13 +36,15 @@ returns c =
     let a = c .before .before .args in
     packed (at .out) (λ i. getD (getD (now (a .rows)) i []) (a .q) 0 / a .unit) (a .count) (λ k h. at .inv .2 k (omega arith))
 
-pub halves-spec : {M : Type 1} → statement M
-halves-spec =
+pub pack-halves-spec : {M : Type 1} → statement M
+pack-halves-spec =
     tie.close
     (tie.spec
     Inv-loop
     μ-loop
     (λ c. (zero-le, refl, λ k h. absurd (not-suc-le-zero h)))
+    (λ c. omega arith)
+    (λ c. omega arith)
     (λ c. omega arith)
     (λ c. omega arith)
     (λ c. omega arith)
