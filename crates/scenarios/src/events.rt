@@ -22,51 +22,40 @@ fn faults_of(e: usize, x: &mut u64) -> usize {
     }
 }
 
-// The faults of the event's own report: of event 8, once in three times, a byte of the body.
-fn last_of(e: usize, x: &mut u64) -> usize {
-    if e != 8 {
-        return 0;
-    }
+// The faults of event 8's own report: once in three times a byte of the body.
+fn body_fault(x: &mut u64) -> usize {
     if 0 < random::below(x, 3) {
         return 0;
     }
     64
 }
 
-// How many losses a burst leaves over.
-fn left_of(e: usize, burst: u8, x: &mut u64) -> usize {
-    if e != 14 {
-        return 0;
-    }
-    random::below(x, burst as usize + 2)
-}
-
-// Whether the frame is lost in this event.
-fn is_loss(e: usize) -> bool {
-    match e {
-        6 | 7 | 14 | 15 => true,
-        _ => false,
-    }
-}
-
-// A loss that is left over, or one of the sixteen events.
+// A loss that is left over, or one of the sixteen events; 14 begins a burst.
 pub(crate) fn draw(left: usize, burst: u8, x: &mut u64) -> Event {
+    let mut out = Event {
+        lost: true,
+        faults: 0,
+        last: 0,
+        left: 0,
+    };
     if 0 < left {
-        return Event {
-            lost: true,
-            faults: 0,
-            last: 0,
-            left: left - 1,
-        };
+        out.left = left - 1;
+        return out;
     }
     let e = random::below(x, 16);
-    let after = left_of(e, burst, x);
-    let set = faults_of(e, x);
-    let last = last_of(e, x);
-    Event {
-        lost: is_loss(e),
-        faults: set,
-        last: last,
-        left: after,
+    out.faults = faults_of(e, x);
+    match e {
+        6 | 7 | 15 => {}
+        8 => {
+            out.lost = false;
+            out.last = body_fault(x);
+        }
+        14 => {
+            out.left = random::below(x, burst as usize + 2);
+        }
+        _ => {
+            out.lost = false;
+        }
     }
+    out
 }

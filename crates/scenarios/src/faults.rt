@@ -1,8 +1,6 @@
 // What is wrong with a call: a set of faults is a sum of 1, 2, 4, 8, 16, 32 and 64.
 use crate::random;
 use code::Settings;
-use protocol::Receiver;
-use protocol::Sender;
 use trace::Call;
 ghost use Prim.Native.Nat.{_≤_, _<_};
 
@@ -17,7 +15,7 @@ fn seventeen(s: Settings, window: u8, delay: u8, burst: u8) -> Settings {
     }
 }
 
-// The settings broken in one of eight ways.
+// The settings broken in one of eight ways, or as they are.
 pub(crate) fn broken(s: Settings, way: usize) -> Settings {
     let mut out = s;
     match way {
@@ -42,173 +40,86 @@ pub(crate) fn broken(s: Settings, way: usize) -> Settings {
         6 => {
             out = seventeen(s, 16, 15, 2);
         }
-        _ => {
+        7 => {
             out = seventeen(s, 10, 9, 8);
         }
+        _ => {}
     }
     out
 }
 
-// The settings of a call with the fault 1, or without it.
-fn settings(s: Settings, faults: usize, x: &mut u64) -> Settings {
-    if faults % 2 == 0 {
-        return s;
+// One byte less is lent, or one byte more.
+pub(crate) fn off(cut: usize, more: bool) -> usize {
+    if more {
+        return trace::end(cut, 1);
     }
-    let way = random::below(x, 8);
-    broken(s, way)
+    std::num::wrapping_add_usize(cut, 1)
 }
 
 // The call, with the fault 2 one of so many things at a wrong length.
-fn cut(exact: Call, things: usize, faults: usize, x: &mut u64) -> Call
+fn cut(exact: Call, things: usize, x: &mut u64) -> Call
     requires { ⌜ (0 < things) × (things ≤ 3) ⌝ }
 {
-    if faults / 2 % 2 == 0 {
-        return exact;
-    }
     let h = random::below(x, things * 2);
+    let more = h % 2 == 1;
     let mut out = exact;
-    let cut = (1 - h % 2) * 2;
     match h / 2 {
         0 => {
-            out.rows = cut;
+            out.rows = off(exact.rows, more);
         }
         1 => {
-            out.first = cut;
+            out.first = off(exact.first, more);
         }
         _ => {
-            out.second = cut;
+            out.second = off(exact.second, more);
         }
     }
     out
 }
 
-// The slot due of a call with the fault 4, or without it.
-fn due(slot: u32, faults: usize, x: &mut u64) -> u32 {
-    if faults / 4 % 2 == 0 {
-        return slot;
-    }
-    random::late(x)
-}
-
-// A call of so many things with the faults 1, 2 and 4.
-pub(crate) fn call(s: Settings, slot: u32, faults: usize, things: usize, x: &mut u64) -> Call
+// The call of so many things with the faults 1, 2 and 4.
+pub(crate) fn wrong(exact: Call, things: usize, faults: usize, x: &mut u64) -> Call
     requires { ⌜ (0 < things) × (things ≤ 3) ⌝ }
 {
-    let wrong = settings(s, faults, x);
-    let mut out = cut(trace::exact(wrong, slot), things, faults, x);
-    out.due = due(slot, faults, x);
+    let mut out = exact;
+    if faults % 2 == 1 {
+        let s = exact.settings;
+        let way = random::below(x, 8);
+        out.settings = broken(s, way);
+    }
+    if faults / 2 % 2 == 1 {
+        out = cut(out, things, x);
+    }
+    if faults / 4 % 2 == 1 {
+        out.due = 4000000000 + random::below(x, 32768) as u32;
+    }
     out
 }
 
 // Changes one of `count` bytes from `first` on, if the fault is 1.
-fn flip(bytes: &mut [u8], fault: usize, first: usize, count: usize, x: &mut u64)
-    requires { ⌜ (0 < count) × (first ≤ 14) ⌝ }
+fn flip(bytes: [u8; 1040], fault: usize, first: usize, count: usize, x: &mut u64) -> [u8; 1040]
+    requires { ⌜ first ≤ 14 ⌝ }
 {
     if fault == 0 {
-        return;
+        return bytes;
+    }
+    if count == 0 {
+        return bytes;
     }
     let q = first + random::below(x, count);
     let v = random::below(x, 255) + 1;
-    if bytes.len() <= q {
-        return;
+    if 1040 <= q {
+        return bytes;
     }
-    bytes[q] = bytes[q] ^ v as u8;
+    let mut out = bytes;
+    out[q] = out[q] ^ v as u8;
+    out
 }
 
-// The length of a frame's body, at least 1, from that of a frame with one byte behind it.
-fn body(length: usize) -> usize
-    ensures { λ r. ⌜ 0 < r ⌝ }
-{
-    if length < 16 {
-        return 1;
-    }
-    length - 15
-}
-
-// The faults 8, 16, 32 and 64.
-fn change(frame: &mut [u8], faults: usize, x: &mut u64) {
-    flip(frame, faults / 8 % 2, 0, 5, x);
-    flip(frame, faults / 16 % 2, 5, 5, x);
-    flip(frame, faults / 32 % 2, 10, 4, x);
-    flip(frame, faults / 64 % 2, 14, body(frame.len()), x);
-}
-
-// A send with faults, if there are any.
-pub(crate) fn send(
-    before: Sender,
-    faults: usize,
-    x: &mut u64,
-    rows: &mut [u8],
-    message: &[u8],
-    frame: &mut [u8],
-) {
-    if faults == 0 {
-        return;
-    }
-    let s = before.settings;
-    trace::send(call(s, before.due, faults, 3, x), rows, message, frame);
-}
-
-// The length, and no more than there is.
-fn at_most(length: usize, size: usize) -> usize
-    ensures { λ r. ⌜ r ≤ size ⌝ }
-{
-    if size < length {
-        return size;
-    }
-    length
-}
-
-// Copies a frame to a place of its length, and changes the copy.
-fn copy(to: &mut [u8], from: &[u8], faults: usize, x: &mut u64) {
-    if to.len() < from.len() {
-        return;
-    }
-    buffers::write_at(to, 0, from);
-    change(to, faults, x);
-}
-
-// A changed copy of a frame, and zeros behind it.
-fn copied(frame: &[u8], end: usize, faults: usize, x: &mut u64) -> [u8; 1040]
-    requires { ⌜ end ≤ 1040 ⌝ }
-{
-    let mut spare = [0u8; 1040];
-    copy(&mut spare[0..end], frame, faults, x);
-    spare
-}
-
-// A report of a lost frame, or of a changed copy of a heard one.
-pub(crate) fn reported(
-    before: Receiver,
-    lost: bool,
-    faults: usize,
-    x: &mut u64,
-    rows: &mut [u8],
-    frame: &[u8],
-    buffer: &mut [u8],
-) -> Receiver {
-    let s = before.settings;
-    if lost {
-        return trace::loss(call(s, before.due, faults, 2, x), rows, buffer);
-    }
-    let wrong = call(s, before.due, faults, 3, x);
-    let end = at_most(frame.len(), 1040);
-    let spare = copied(frame, end, faults, x);
-    trace::heard(wrong, rows, &spare[0..end], buffer)
-}
-
-// A report with faults, if there are any.
-pub(crate) fn report(
-    before: Receiver,
-    lost: bool,
-    faults: usize,
-    x: &mut u64,
-    rows: &mut [u8],
-    frame: &[u8],
-    buffer: &mut [u8],
-) {
-    if faults == 0 {
-        return;
-    }
-    reported(before, lost, faults, x, rows, frame, buffer);
+// A frame with the faults 8, 16, 32 and 64.
+pub(crate) fn changed(frame: [u8; 1040], s: Settings, faults: usize, x: &mut u64) -> [u8; 1040] {
+    let marked = flip(frame, faults / 8 % 2, 0, 5, x);
+    let set = flip(marked, faults / 16 % 2, 5, 5, x);
+    let placed = flip(set, faults / 32 % 2, 10, 4, x);
+    flip(placed, faults / 64 % 2, 14, buffers::body_len(s), x)
 }

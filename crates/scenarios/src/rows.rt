@@ -1,4 +1,5 @@
 // What is done to lent rows behind the receiver's back.
+use crate::game::Game;
 use crate::random;
 use code::Settings;
 ghost use Prim.Native.Nat.{_<_};
@@ -12,44 +13,38 @@ fn any_flag(x: &mut u64) -> u8 {
     }
 }
 
-// Writes a byte at a place, if there is one.
-fn put(rows: &mut [u8], place: usize, value: u8) {
-    if rows.len() <= place {
-        return;
-    }
-    rows[place] = value;
-}
-
-// Draws the byte at this place if a row of this size begins there.
-fn flag_at(rows: &mut [u8], size: usize, place: usize, x: &mut u64)
+// The first byte of each row, of this size; so many bytes at the end are no rows.
+fn flags(rows: &mut [u8], size: usize, cut: usize, x: &mut u64)
     requires { ⌜ 0 < size ⌝ }
 {
-    if 0 < place % size {
-        return;
-    }
-    put(rows, place, any_flag(x));
-}
-
-// The first byte of each row, of this size.
-fn flags(rows: &mut [u8], size: usize, x: &mut u64)
-    requires { ⌜ 0 < size ⌝ }
-{
-    let count = trace::end(rows.len(), 1);
+    let count = trace::end(rows.len(), cut);
     let mut q: usize = 0;
     while q < count {
-        flag_at(rows, size, q, x);
-        q += 1;
+        rows[q] = any_flag(x);
+        if count - q <= size {
+            return;
+        }
+        q += size;
     }
 }
 
-// Of lent rows, after the openings: every byte of both ends' rows, and then the first byte of each of the receiver's.
-pub(crate) fn draw(s: Settings, lent: bool, sent: &mut [u8], received: &mut [u8], x: &mut u64) {
-    if !lent {
-        return;
+// Of lent rows: every byte of both ends' rows, and then the first byte of each of the receiver's; both ends are set to the start.
+pub(crate) fn drawn(game: Game, start: u32, x: &mut u64) -> Game {
+    if !game.lent {
+        return game;
     }
-    random::fill(sent, x);
-    random::fill(received, x);
-    flags(received, buffers::row_len(s), x);
+    let mut sent = game.sent;
+    let mut received = game.received;
+    random::fill(&mut sent, game.sent_cut, x);
+    random::fill(&mut received, game.received_cut, x);
+    let size = buffers::row_len(game.settings);
+    flags(&mut received, size, game.received_cut, x);
+    let mut out = game;
+    out.sent = sent;
+    out.received = received;
+    out.sender.due = start;
+    out.receiver.due = start;
+    out
 }
 
 // A flag written between two calls.
@@ -70,13 +65,21 @@ fn row_at(s: Settings, r: usize) -> usize
 }
 
 // Of lent rows, once in four times: the first byte of a drawn row.
-pub(crate) fn touch(s: Settings, lent: bool, rows: &mut [u8], x: &mut u64) {
-    if !lent {
-        return;
+pub(crate) fn touched(game: Game, x: &mut u64) -> Game {
+    if !game.lent {
+        return game;
     }
     if 0 < random::below(x, 4) {
-        return;
+        return game;
     }
+    let s = game.settings;
     let r = random::below(x, buffers::row_count(s));
-    put(rows, row_at(s, r), some_flag(x));
+    let place = row_at(s, r);
+    let flag = some_flag(x);
+    if 32768 <= place {
+        return game;
+    }
+    let mut out = game;
+    out.received[place] = flag;
+    out
 }

@@ -7,14 +7,6 @@ fn number(n: u64) {
     io::print_decimal(1, n);
 }
 
-// The settings but for the window.
-fn settings(s: Settings) {
-    number(s.delay as u64);
-    number(s.burst as u64);
-    number(s.scattered as u64);
-    number(s.lanes as u64);
-}
-
 // The kind of a scenario.
 fn kind(lent: bool) {
     if lent {
@@ -24,10 +16,13 @@ fn kind(lent: bool) {
     io::write_all(1, b" fresh");
 }
 
-// A scenario's settings, its kind and the slot that it starts at.
+// A scenario's settings but for the window, its kind and the slot that it starts at.
 pub(crate) fn scenario(s: Settings, lent: bool, start: u32) {
     io::write_all(1, b"scenario");
-    settings(s);
+    number(s.delay as u64);
+    number(s.burst as u64);
+    number(s.scattered as u64);
+    number(s.lanes as u64);
     kind(lent);
     number(start as u64);
     io::write_all(1, b"\n");

@@ -1,5 +1,5 @@
-// The calls, and the line of each. A buffer has one byte 0 behind its exact length: how many bytes at its end are not lent is 0 for a
-// thing longer by one, 1 for one of exact length, 2 for one shorter by one.
+// The calls, and the line of each. A buffer has zeros behind the exact length of what it is for: how many bytes at its end are not lent
+// makes a thing of exact length, or one longer or shorter by one.
 use crate::print;
 use code::Settings;
 use ends::receiver_at;
@@ -16,19 +16,6 @@ pub struct Call {
     pub rows: usize,
     pub first: usize,
     pub second: usize,
-}
-
-// A call with everything of exact length.
-pub fn exact(s: Settings, slot: u32) -> Call
-    ensures { λ r. ⌜ r ≡ record { settings = s; due = slot; rows = 1; first = 1; second = 1 } ⌝ }
-{
-    Call {
-        settings: s,
-        due: slot,
-        rows: 1,
-        first: 1,
-        second: 1,
-    }
 }
 
 // The length that is left.

@@ -4,7 +4,6 @@ mod print;
 
 pub use lent::Call;
 pub use lent::end;
-pub use lent::exact;
 pub use lent::heard;
 pub use lent::loss;
 pub use lent::open_receiver;

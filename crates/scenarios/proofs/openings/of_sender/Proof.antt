@@ -1,4 +1,4 @@
--- The loop counts to eleven.
+-- The loop counts to twelve.
 use borrow.Author.Needs.{needs}
 use mathlib.Core.Path.{_≡_, refl}
 use native.Mathlib.Omega.{arith}
@@ -8,10 +8,10 @@ use Rattle.scenarios.proofs.openings.of_sender.Statement.{statement}
 use Rattle.scenarios.proofs.openings.of_sender.Tie as tie
 
 abbrev Inv-loop : tie.InvT-loop
-Inv-loop s rows₀ x₀ r₀ rows x r = (r ≤ 11) × (length rows ≡ length rows₀)
+Inv-loop s cut rows₀ x₀ sender₀ r₀ rows x sender r = (r ≤ 12) × (length rows ≡ length rows₀)
 
 abbrev μ-loop : tie.MeasureT-loop
-μ-loop s rows₀ x₀ r₀ rows x r = 11 - r
+μ-loop s cut rows₀ x₀ sender₀ r₀ rows x sender r = 12 - r
 
 pub of-sender-spec : {M : Type 1} → statement M
 of-sender-spec =
@@ -22,10 +22,8 @@ of-sender-spec =
     (λ c. (zero-le, refl))
     (λ c κs. search needs)
     (λ c κs. search needs)
-    (λ c κs. search needs)
     (λ c. omega arith)
     (λ c. omega arith)
     (λ c. (omega arith, omega arith))
-    (λ c κs. search needs)
-    (λ c. omega arith)
+    (λ c. c .before .loop .inv .1)
     (λ c. search needs))

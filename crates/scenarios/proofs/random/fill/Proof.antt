@@ -8,10 +8,10 @@ use Rattle.scenarios.proofs.random.fill.Statement.{statement}
 use Rattle.scenarios.proofs.random.fill.Tie as tie
 
 abbrev Inv-loop : tie.InvT-loop
-Inv-loop out₀ x₀ q₀ out x q = (1 ≤ q) × (length out ≡ length out₀)
+Inv-loop out₀ cut x₀ count q₀ out x q = (count ≤ length out₀) × (length out ≡ length out₀)
 
 abbrev μ-loop : tie.MeasureT-loop
-μ-loop out₀ x₀ q₀ out x q = length out₀ - q
+μ-loop out₀ cut x₀ count q₀ out x q = count - q
 
 pub fill-spec : {M : Type 1} → statement M
 fill-spec =
@@ -19,12 +19,13 @@ fill-spec =
     (tie.spec
     Inv-loop
     μ-loop
-    (λ c. (omega arith, refl))
+    (λ c κs. search needs)
+    (λ c. (omega (arith, c .end .ensures), refl))
     (λ c κs. search needs)
     (λ c. omega arith)
     (λ c. omega arith)
     (λ c. omega arith)
     (λ c. omega arith)
-    (λ c. (omega arith, simp length-set (c .before .before .before .loop .inv .1)))
+    (λ c. (omega arith, simp length-set (omega arith)))
     (λ c. c .before .loop .inv .1)
     (λ c. search needs))
