@@ -3,8 +3,7 @@ use code::Settings;
 use protocol::Answer;
 use protocol::Reply;
 use protocol::number_of;
-ghost use Prim.Native.Nat.{_≤_, _<_};
-ghost use lib.ListN.{length};
+ghost use Prim.Native.Nat.{_<_};
 
 // A number.
 fn number(n: u64) {
@@ -62,25 +61,18 @@ fn wide(b: u8) -> u64
     b as u64
 }
 
-// A byte counts once for itself and once for each byte before it: from the end on, the sum so far is added for each byte.
-fn sum(bytes: &[u8], count: usize) -> u64
-    requires { ⌜ count ≤ length (now bytes) ⌝ }
-{
+// The sum of bytes, in which a byte counts once for itself and once for each byte before it: from the end on, the sum so far is added for
+// each byte.
+fn sum(bytes: &[u8]) {
     let mut tail: u64 = 0;
     let mut total: u64 = 0;
-    let mut q = count;
+    let mut q = bytes.len();
     while 0 < q {
         q -= 1;
         tail = (tail + wide(bytes[q])) % 65521;
         total = (total + tail) % 65521;
     }
-    total
-}
-
-// The sum of all bytes but the last one.
-fn sum_of(bytes: &[u8]) {
-    let count = crate::lent::end(bytes.len(), 1);
-    number(sum(bytes, count));
+    number(total);
 }
 
 // The end of a line.
@@ -95,7 +87,7 @@ pub(crate) fn opened_sender(opened: sender::Opened, rows: &[u8]) {
     io::write_all(1, b"open-sender");
     answer(a);
     state(x.settings, x.due);
-    sum_of(rows);
+    sum(rows);
     line_end();
 }
 
@@ -106,7 +98,7 @@ pub(crate) fn opened_receiver(opened: receiver::Opened, rows: &[u8]) {
     io::write_all(1, b"open-receiver");
     answer(a);
     state(x.settings, x.due);
-    sum_of(rows);
+    sum(rows);
     line_end();
 }
 
@@ -117,8 +109,8 @@ pub(crate) fn sent(sent: sender::Sent, frame: &[u8], rows: &[u8]) {
     io::write_all(1, b"send");
     answer(a);
     state(x.settings, x.due);
-    sum_of(frame);
-    sum_of(rows);
+    sum(frame);
+    sum(rows);
     line_end();
 }
 
@@ -129,7 +121,7 @@ pub(crate) fn reported(word: &[u8], r: receiver::Reported, buffer: &[u8], rows: 
     io::write_all(1, word);
     reply(a);
     state(x.settings, x.due);
-    sum_of(buffer);
-    sum_of(rows);
+    sum(buffer);
+    sum(rows);
     line_end();
 }

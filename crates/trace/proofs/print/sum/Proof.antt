@@ -7,10 +7,10 @@ use Rattle.trace.proofs.print.sum.Statement.{statement}
 use Rattle.trace.proofs.print.sum.Tie as tie
 
 abbrev Inv-loop : tie.InvT-loop
-Inv-loop bytes count tail₀ total₀ q₀ tail total q = (q ≤ length bytes) × (tail < 65521) × (total < 65521)
+Inv-loop bytes tail₀ total₀ q₀ tail total q = (q ≤ length bytes) × (tail < 65521) × (total < 65521)
 
 abbrev μ-loop : tie.MeasureT-loop
-μ-loop bytes count tail₀ total₀ q₀ tail total q = q
+μ-loop bytes tail₀ total₀ q₀ tail total q = q
 
 pub sum-spec : {M : Type 1} → statement M
 sum-spec =
@@ -26,4 +26,5 @@ sum-spec =
     (λ c. omega arith)
     (λ c. omega arith)
     (λ c. (omega arith, omega arith, omega arith))
+    (λ c κs. search needs)
     (λ c. search needs))
