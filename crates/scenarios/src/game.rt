@@ -58,8 +58,7 @@ fn sending(game: Game, x: &mut u64) -> Game {
         first: game.buffer_cut,
         second: game.frame_cut,
     };
-    let mut message = [0u8; 1040];
-    random::fill(&mut message, game.buffer_cut, x);
+    let message = random::bytes(game.buffer_cut, x);
     let faults = send_faults(x);
     let mut out = game;
     if 0 < faults {

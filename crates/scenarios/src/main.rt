@@ -16,14 +16,10 @@ fn opened(s: Settings, lent: bool, x: &mut u64) -> Game {
     let received_cut = trace::end(32768, buffers::receiver_len(s));
     let frame_cut = trace::end(1040, buffers::frame_len(s));
     let buffer_cut = trace::end(1040, buffers::message_len(s));
-    let mut sent = [0u8; 32768];
-    let mut received = [0u8; 32768];
-    let mut frame = [0u8; 1040];
-    let mut buffer = [0u8; 1040];
-    random::fill(&mut sent, sent_cut, x);
-    random::fill(&mut received, received_cut, x);
-    random::fill(&mut frame, frame_cut, x);
-    random::fill(&mut buffer, buffer_cut, x);
+    let mut sent = random::rows(sent_cut, x);
+    let mut received = random::rows(received_cut, x);
+    let frame = random::bytes(frame_cut, x);
+    let buffer = random::bytes(buffer_cut, x);
     let sender = openings::of_sender(s, sent_cut, &mut sent, x);
     let receiver = openings::of_receiver(s, received_cut, &mut received, x);
     Game {

@@ -27,3 +27,17 @@ pub(crate) fn fill(out: &mut [u8], cut: usize, x: &mut u64) {
         q += 1;
     }
 }
+
+// Rows, drawn but for so many zeros at the end.
+pub(crate) fn rows(cut: usize, x: &mut u64) -> [u8; 32768] {
+    let mut out = [0u8; 32768];
+    fill(&mut out, cut, x);
+    out
+}
+
+// A frame or a message, drawn but for so many zeros at the end.
+pub(crate) fn bytes(cut: usize, x: &mut u64) -> [u8; 1040] {
+    let mut out = [0u8; 1040];
+    fill(&mut out, cut, x);
+    out
+}
