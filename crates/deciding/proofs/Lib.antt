@@ -1,3 +1,3 @@
--- The laws of marks and of parts of a buffer that the functions' proofs cite.
-pub mod Marks
+-- The laws of grades and of parts of a buffer that the functions' proofs cite.
+pub mod Grades
 pub mod Parts

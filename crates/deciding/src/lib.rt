@@ -12,7 +12,7 @@ ghost use Rattle.protocol.specs.Lengths.{messageLen};
 ghost use Rattle.protocol.specs.Verdict.{verdict, bufferOf};
 ghost use Rattle.places.specs.Places.{Ready};
 
-// The larger of two marks.
+// The larger of two grades.
 fn worse(a: u8, b: u8) -> u8
     ensures { λ r. ⌜ r ≡ cond (ltb a b) b a ⌝ }
 {
@@ -36,7 +36,7 @@ pub fn decided(s: Settings, rows: &[u8], due: usize, t: usize, message: &mut [u8
     let mut i: usize = 0;
     while i < s.sources() {
         let start = i * lanes;
-        let mark = write_symbol(
+        let grade = write_symbol(
             s,
             rows,
             due,
@@ -46,7 +46,7 @@ pub fn decided(s: Settings, rows: &[u8], due: usize, t: usize, message: &mut [u8
             &reciprocals,
             &mut message[start..start + lanes],
         );
-        worst = worse(worst, mark);
+        worst = worse(worst, grade);
         i += 1;
     }
     if worst == 0 {

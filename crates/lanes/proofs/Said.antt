@@ -7,9 +7,9 @@ use Rattle.code.specs.declared.settings.Settings.{Settings}
 use Rattle.elimination.specs.Elimination.{Reduced, differs}
 use Rattle.lanes.specs.Lanes.{Answer, combinedLanes, lanesClash, lanesSaid}
 
--- a mark, and the L bytes with it
+-- a grade, and the L bytes with it
 abbrev pub answers : ℕ → List ℕ → Answer
-answers mark symbol = record { mark = mark; symbol = symbol }
+answers grade symbol = record { grade = grade; symbol = symbol }
 
 module _ (s : Settings) (x : Reduced) (flags places bytes : List ℕ) (i : ℕ) (out : List ℕ) where
   pub said-clash : lanesClash s x flags places bytes ≡ true → answers 2 out ≡ lanesSaid s x flags places bytes i out

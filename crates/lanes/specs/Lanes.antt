@@ -33,18 +33,18 @@ clashAt s x places bytes q = any (s .lanes) (λ v. not (eqb (combined s x (laneB
 unfoldable pub lanesClash : Settings → Reduced → List ℕ → List ℕ → List ℕ → Bool
 lanesClash s x flags places bytes = any (s .lanes) (λ v. clashes s x (knownIn s flags) (laneByte s places bytes v))
 
--- an answer's mark, and the L bytes of the symbol
+-- an answer's grade, and the L bytes of the symbol
 pub record Answer : Type 0 where
-  pub mark : ℕ
+  pub grade : ℕ
   pub symbol : List ℕ
 
--- 2 if some lane clashes, else 1 if the symbol is lost, else 0 and the shared bytes; what was lent stays where the mark is not 0
+-- 2 if some lane clashes, else 1 if the symbol is lost, else 0 and the shared bytes; what was lent stays where the grade is not 0
 unfoldable pub lanesSaid : Settings → Reduced → List ℕ → List ℕ → List ℕ → ℕ → List ℕ → Answer
 lanesSaid s x flags places bytes i out =
     elim (lanesClash s x flags places bytes) [
-      | true ↦ record { mark = 2; symbol = out }
+      | true ↦ record { grade = 2; symbol = out }
       | false ↦ elim (differs s x i) [
-        | true ↦ record { mark = 1; symbol = out }
-        | false ↦ record { mark = 0; symbol = combinedLanes s x places bytes i }
+        | true ↦ record { grade = 1; symbol = out }
+        | false ↦ record { grade = 0; symbol = combinedLanes s x places bytes i }
       ]
     ]

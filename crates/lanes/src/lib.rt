@@ -30,7 +30,7 @@ pub fn answer(
 ) -> u8
     requires { ⌜ Held s (now places) (now bytes) × (i < kOf s) × (length (now roles) ≡ 16) × (length (now out) ≡ s .lanes)
         × Own s (record { rows = now rows; roles = now roles }) i × ParityOnly s (now flags) ⌝ }
-    ensures { λ r. ⌜ record { mark = r; symbol = now (out .exit) }
+    ensures { λ r. ⌜ record { grade = r; symbol = now (out .exit) }
         ≡ lanesSaid s (record { rows = now (rows .entry); roles = now (roles .entry) }) (now (flags .entry)) (now (places .entry))
         (now (bytes .entry)) i (now (out .entry)) ⌝ }
 {

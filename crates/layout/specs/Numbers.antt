@@ -2,8 +2,6 @@
 use mathlib.Core.Bool.{Bool, not, _&&_}
 use Prim.Native.Nat.{ℕ}
 use lib.Dec.{leb}
--- the same of an opening's or a send's answer
-pub use Rattle.protocol.specs.Histories.{isAccepted as taken}
 
 -- the numbers of a refusal: the causes' of all documents, 1 to 15, whichever of them a version has; other replies are 0, or 16 and above
 abbrev pub refusal : ℕ → Bool

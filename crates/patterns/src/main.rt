@@ -18,9 +18,9 @@ fn print_field(n: u64) {
     io::write_all(1, b" ");
 }
 
-// What the mark says; the byte is that of a symbol which is whole.
-fn print_answer(mark: u8, byte: u8) {
-    match mark {
+// What the grade says; the byte is that of a symbol which is whole.
+fn print_answer(grade: u8, byte: u8) {
+    match grade {
         2 => {
             io::write_all(1, b"clash\n");
         }
@@ -81,13 +81,13 @@ fn pattern(s: Settings, j: u8, x: &mut u64)
     let mut rows = [0u8; 32800];
     let end = receiver_len(s);
     let mut symbol = [0u8; 1];
-    let mark = told(s, &flags, &bytes, i, &mut rows[0..end], &mut symbol);
+    let grade = told(s, &flags, &bytes, i, &mut rows[0..end], &mut symbol);
     print_field(s.delay as u64);
     print_field(s.burst as u64);
     print_field(s.scattered as u64);
     print_field(j as u64);
     print_field(i as u64);
-    print_answer(mark, symbol[0]);
+    print_answer(grade, symbol[0]);
 }
 
 // Six patterns, for settings that are accepted.

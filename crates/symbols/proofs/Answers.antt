@@ -17,7 +17,7 @@ use Rattle.shares.specs.Shares.{laneByte}
 use Rattle.lanes.specs.Lanes.{Answer, combinedLanes, lanesClash, lanesSaid}
 use Rattle.lanes.proofs.Said.{answers, said-clash, said-lost, said-whole}
 use Rattle.protocol.specs.Verdict.{symbolSaid, isClash, isLost, wholeByte}
-use Rattle.symbols.specs.Decision.{mark, lanesMark, Told}
+use Rattle.symbols.specs.Decision.{grade, lanesGrade, Told}
 
 -- where what elimination says of each lane is what the fitting words say
 module _ (s : Settings) (rows : List ℕ) (due t i : ℕ) (x : Reduced) (flags places : List ℕ) (some : 0 < s .lanes)
@@ -71,33 +71,33 @@ module _ (s : Settings) (rows : List ℕ) (due t i : ℕ) (x : Reduced) (flags p
     whole-byte d v h =
         getD-table (s .lanes) (λ v. combined s x (laneByte s places rows v) i) v 0 h ∙ ap wholeByte (sym (lane-whole d v h))
 
-  -- the mark, by its two tests
-  mark-by : (c l : Bool) → lanesClash s x flags places rows ≡ c → any (s .lanes) (λ v. isLost (symbolSaid s rows due t i v)) ≡ l
-      → mark c l ≡ lanesMark s rows due t i
-  unfolding lanesMark
-  mark-by c l ec el = sym (ap₂ mark (sym all-clash ∙ ec) el)
+  -- the grade, by its two tests
+  grade-by : (c l : Bool) → lanesClash s x flags places rows ≡ c → any (s .lanes) (λ v. isLost (symbolSaid s rows due t i v)) ≡ l
+      → grade c l ≡ lanesGrade s rows due t i
+  unfolding lanesGrade
+  grade-by c l ec el = sym (ap₂ grade (sym all-clash ∙ ec) el)
 
   pub told : (r : ℕ) (out bytes : List ℕ) → answers r bytes ≡ lanesSaid s x flags places rows i out → Told s rows due t i r bytes
-  unfolding mark
+  unfolding grade
   told r out bytes e = go (lanesClash s x flags places rows) (differs s x i) refl refl
     where
-      -- the answer's mark and bytes, by its case
+      -- the answer's grade and bytes, by its case
       by : (m : ℕ) (l : List ℕ) → answers m l ≡ lanesSaid s x flags places rows i out → (r ≡ m) × (bytes ≡ l)
-      by m l case = (ap (λ (a : Answer). a .mark) (e ∙ sym case), ap (λ (a : Answer). a .symbol) (e ∙ sym case))
+      by m l case = (ap (λ (a : Answer). a .grade) (e ∙ sym case), ap (λ (a : Answer). a .symbol) (e ∙ sym case))
 
       go : (c d : Bool) → lanesClash s x flags places rows ≡ c → differs s x i ≡ d → Told s rows due t i r bytes
       go true d c _ =
           let is = by 2 out (said-clash s x flags places rows i out c) in
           record {
-            marked = is .0 ∙ mark-by true (any (s .lanes) (λ v. isLost (symbolSaid s rows due t i v))) c refl;
+            graded = is .0 ∙ grade-by true (any (s .lanes) (λ v. isLost (symbolSaid s rows due t i v))) c refl;
             shared = λ zero. absurd (omega arith);
           }
       go false true c d =
           let is = by 1 out (said-lost s x flags places rows i out c d) in
-          record { marked = is .0 ∙ mark-by false true c (all-lost c d); shared = λ zero. absurd (omega arith) }
+          record { graded = is .0 ∙ grade-by false true c (all-lost c d); shared = λ zero. absurd (omega arith) }
       go false false c d =
           let is = by 0 (combinedLanes s x places rows i) (said-whole s x flags places rows i out c d) in
           record {
-            marked = is .0 ∙ mark-by false false c (none-lost c d);
+            graded = is .0 ∙ grade-by false false c (none-lost c d);
             shared = λ zero v h. ap (λ (l : List ℕ). getD l v 0) (is .1) ∙ whole-byte c d v h;
           }

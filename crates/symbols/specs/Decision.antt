@@ -1,4 +1,4 @@
--- What the receiver works out on its way to a verdict: what is told of a symbol, and the worst mark so far.
+-- What the receiver works out on its way to a verdict: what is told of a symbol, and the worst grade so far.
 use mathlib.Core.Path.{_≡_}
 use mathlib.Core.Bool.{Bool, cond}
 use mathlib.Core.List.{List}
@@ -9,23 +9,23 @@ use Rattle.code.specs.declared.settings.Settings.{Settings}
 use Rattle.protocol.specs.Verdict.{symbolSaid, isClash, isLost, wholeByte}
 
 -- 2 for a clash, else 1 for a loss, else 0
-unfoldable pub mark : Bool → Bool → ℕ
-mark clash lost = cond clash 2 (cond lost 1 0)
+unfoldable pub grade : Bool → Bool → ℕ
+grade clash lost = cond clash 2 (cond lost 1 0)
 
--- the mark of symbol i in all lanes
-unfoldable pub lanesMark : Settings → List ℕ → ℕ → ℕ → ℕ → ℕ
-lanesMark s rows due t i =
-    mark (any (s .lanes) (λ v. isClash (symbolSaid s rows due t i v))) (any (s .lanes) (λ v. isLost (symbolSaid s rows due t i v)))
+-- the grade of symbol i in all lanes
+unfoldable pub lanesGrade : Settings → List ℕ → ℕ → ℕ → ℕ → ℕ
+lanesGrade s rows due t i =
+    grade (any (s .lanes) (λ v. isClash (symbolSaid s rows due t i v))) (any (s .lanes) (λ v. isLost (symbolSaid s rows due t i v)))
 
--- what is told of symbol i: its mark, and where that is 0 the byte of each lane
+-- what is told of symbol i: its grade, and where that is 0 the byte of each lane
 pub record Told (s : Settings) (rows : List ℕ) (due t i r : ℕ) (symbol : List ℕ) : Type 0 where
-  pub marked : r ≡ lanesMark s rows due t i
+  pub graded : r ≡ lanesGrade s rows due t i
   pub shared : r ≡ 0 → (v : ℕ) → v < s .lanes → getD symbol v 0 ≡ wholeByte (symbolSaid s rows due t i v)
 
--- the mark of the first m symbols
-unfoldable pub symbolsMark : Settings → List ℕ → ℕ → ℕ → ℕ → ℕ
-symbolsMark s rows due t m =
-    mark (any m (λ i. any (s .lanes) (λ v. isClash (symbolSaid s rows due t i v))))
+-- the grade of the first m symbols
+unfoldable pub symbolsGrade : Settings → List ℕ → ℕ → ℕ → ℕ → ℕ
+symbolsGrade s rows due t m =
+    grade (any m (λ i. any (s .lanes) (λ v. isClash (symbolSaid s rows due t i v))))
     (any m (λ i. any (s .lanes) (λ v. isLost (symbolSaid s rows due t i v))))
 
 -- byte q of the message, where the fitting words share it

@@ -1,2 +1,2 @@
--- Working definitions: what is told of a symbol, and the worst mark so far.
+-- Working definitions: what is told of a symbol, and the worst grade so far.
 pub mod Decision

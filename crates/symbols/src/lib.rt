@@ -10,7 +10,7 @@ ghost use Rattle.places.specs.Places.{Ready};
 ghost use Rattle.symbols.specs.Decision.{Told};
 ghost use mathlib.Core.Path.{_≡_};
 
-// Symbol i of message t in all lanes: its mark, and its bytes where the mark is 0. The matrix is the systematic form.
+// Symbol i of message t in all lanes: its grade, and its bytes where the grade is 0. The matrix is the systematic form.
 pub fn write_symbol(
     s: Settings,
     rows: &[u8],

@@ -1,4 +1,4 @@
--- One source symbol a turn: the mark is that of the symbols before i, and while it is 0 the message is done up to symbol i.
+-- One source symbol a turn: the grade is that of the symbols before i, and while it is 0 the message is done up to symbol i.
 use mathlib.Core.Path.{_≡_, refl, sym, ap, ap₂, _∙_}
 use mathlib.Core.List.{List}
 use Prim.Native.Nat.{ℕ, _+_, _-_, _*_, _<_, _≤_, zero-le}
@@ -14,8 +14,8 @@ use Rattle.code.proofs.Shape.{Shape, shape}
 use Rattle.galois.proofs.ByIndex.{is-table}
 use Rattle.protocol.specs.Lengths.{messageLen}
 use Rattle.protocol.specs.Verdict.{sharedBytes, bufferOf}
-use Rattle.symbols.specs.Decision.{mark, symbolsMark, sharedByte}
-use Rattle.deciding.proofs.Marks.{larger, larger-zero, symbols-more, verdict-whole, verdict-lost, verdict-clash}
+use Rattle.symbols.specs.Decision.{grade, symbolsGrade, sharedByte}
+use Rattle.deciding.proofs.Grades.{larger, larger-zero, symbols-more, verdict-whole, verdict-lost, verdict-clash}
 use Rattle.symbols.proofs.LaneSaid.{byte-said}
 use Rattle.deciding.proofs.Parts.{part-filled}
 use Rattle.deciding.proofs.decided.Statement.{statement}
@@ -23,14 +23,14 @@ use Rattle.deciding.proofs.decided.Tie as tie
 
 abbrev Inv-loop : tie.InvT-loop
 Inv-loop s rows due t message₀ matrix reciprocals lanes worst₀ i₀ message worst i =
-    Shape s × (i ≤ kOf s) × (length message ≡ messageLen s) × (worst ≡ symbolsMark s rows due t i)
+    Shape s × (i ≤ kOf s) × (length message ≡ messageLen s) × (worst ≡ symbolsGrade s rows due t i)
     × (worst ≡ 0 → (q : ℕ) → q < i * s .lanes → getD message q 0 ≡ sharedByte s rows due t q)
 
 abbrev μ-loop : tie.MeasureT-loop
 μ-loop s rows due t message₀ matrix reciprocals lanes worst₀ i₀ message worst i = kOf s - i
 
 loop-holds : tie.Need-loop-holds Inv-loop μ-loop
-unfolding symbolsMark mark any
+unfolding symbolsGrade grade any
 loop-holds c =
     let start = c .before .before .before .before .before in
     let none = zero-mul (start .args .s .lanes) in
@@ -109,7 +109,7 @@ loop-again c =
       at .inv .0,
       omega arith,
       same-len-mid first (first + L - first) (at .message) part kept ∙ at .inv .2,
-      c .worse .ensures ∙ ap₂ larger (at .inv .3) (told .marked) ∙ symbols-more (a .s) (now (a .rows)) (a .due) (a .t) (at .i),
+      c .worse .ensures ∙ ap₂ larger (at .inv .3) (told .graded) ∙ symbols-more (a .s) (now (a .rows)) (a .due) (a .t) (at .i),
       λ zero q h.
           let both = larger-zero (at .worst) (wrote .write-symbol .result) (sym (c .worse .ensures) ∙ zero) in
           part-filled (at .message) part rest first (omega (arith, ends turn)) (sharedByte (a .s) (now (a .rows)) (a .due) (a .t))
@@ -118,15 +118,15 @@ loop-again c =
           q (omega arith),
     )
 
--- after the loop the mark is that of all symbols
-marked : (c : tie.Else1 Inv-loop μ-loop)
+-- after the loop the grade is that of all symbols
+graded : (c : tie.Else1 Inv-loop μ-loop)
     → let a = c .before .before .before .before .before .before .before .before .args in
-    c .before .before .loop .worst ≡ symbolsMark (a .s) (now (a .rows)) (a .due) (a .t) (kOf (a .s))
-marked c =
+    c .before .before .loop .worst ≡ symbolsGrade (a .s) (now (a .rows)) (a .due) (a .t) (kOf (a .s))
+graded c =
     let at = c .before .before .loop in
     let a = c .before .before .before .before .before .before .before .before .args in
     let all : at .i ≡ kOf (a .s) = omega arith in
-    at .inv .3 ∙ ap (symbolsMark (a .s) (now (a .rows)) (a .due) (a .t)) all
+    at .inv .3 ∙ ap (symbolsGrade (a .s) (now (a .rows)) (a .due) (a .t)) all
 
 returns : tie.Need-returns Inv-loop μ-loop
 unfolding bufferOf sharedBytes sharedByte messageLen
@@ -135,7 +135,7 @@ returns c =
     let a = c .before .before .before .before .before .before .before .before .before .args in
     let all : at .i ≡ kOf (a .s) = omega arith in
     let done : at .i * a .s .lanes ≡ kOf (a .s) * a .s .lanes = ap (λ (m : ℕ). m * a .s .lanes) all in (
-      verdict-whole (a .s) (now (a .rows)) (a .due) (a .t) (sym (marked (c .before)) ∙ c .if2 .taken),
+      verdict-whole (a .s) (now (a .rows)) (a .due) (a .t) (sym (graded (c .before)) ∙ c .if2 .taken),
       is-table (messageLen (a .s)) (sharedByte (a .s) (now (a .rows)) (a .due) (a .t)) 0 (at .message) (at .inv .2)
           (λ q h. at .inv .4 (c .if2 .taken) q (omega arith)),
     )
@@ -146,7 +146,7 @@ returns-2 c =
     let after = c .before .before .before .before .before .before in
     let at = after .before .before .loop in
     let a = after .before .before .before .before .before .before .before .before .args in (
-      verdict-lost (a .s) (now (a .rows)) (a .due) (a .t) (sym (marked after) ∙ c .if3 .taken),
+      verdict-lost (a .s) (now (a .rows)) (a .due) (a .t) (sym (graded after) ∙ c .if3 .taken),
       c .before .before .before .clear .ensures ∙ ap (λ (m : ℕ). replicate m 0) (at .inv .2),
     )
 
@@ -157,7 +157,7 @@ returns-3 c =
     let at = after .before .before .loop in
     let a = after .before .before .before .before .before .before .before .before .args in (
       verdict-clash (a .s) (now (a .rows)) (a .due) (a .t)
-          (λ none. c .before .before .before .before .before .if2 .left (marked after ∙ none)) (λ one. c .if3 .left (marked after ∙ one)),
+          (λ none. c .before .before .before .before .before .if2 .left (graded after ∙ none)) (λ one. c .if3 .left (graded after ∙ one)),
       c .before .before .before .clear .ensures ∙ ap (λ (m : ℕ). replicate m 0) (at .inv .2),
     )
 

@@ -11,7 +11,7 @@ use Rattle.protocol.specs.Calls.{openReceiverOf}
 use Rattle.protocol.proofs.CauseTables.{open-exact}
 use Rattle.frames.specs.Fields.{settingsAt}
 use Rattle.state.specs.State.{stateLen, saved}
-use Rattle.layout.specs.Numbers.{taken}
+use Rattle.protocol.specs.Histories.{isAccepted}
 use Rattle.library.specs.Calls.{Opening}
 use Rattle.library.proofs.Outcomes.{receiverLeft, receiver-caused, receiver-uncaused}
 use Rattle.tob.proofs.openings.tob_open_receiver.Statement.{statement}
@@ -69,7 +69,7 @@ returns-2 c =
     let a = begun one .args in
     ap₂ (outcome _) (at-save .save-answer .ensures .0)
     (at-save .save-answer .ensures .1
-    ∙ ap (λ (bytes : List ℕ). saved (taken (at-open .open .result .answer)) bytes (now (a .state))) (made .receiver-bytes .ensures))
+    ∙ ap (λ (bytes : List ℕ). saved (isAccepted (at-open .open .result .answer)) bytes (now (a .state))) (made .receiver-bytes .ensures))
     ∙ ap (receiverLeft (now (a .state)))
     (at-open .open .ensures ∙ ap (λ (s : Settings). openReceiverOf s (now (a .rows))) (one .before .before .before .before .settings-at .ensures))
     ∙ receiver-uncaused (now (a .settings)) (now (a .state)) (now (a .rows)) (uncaused one)

@@ -10,7 +10,7 @@ use Rattle.protocol.specs.declared.Sender.{Sender}
 use Rattle.protocol.specs.declared.Answer.the-variants as answer
 use Rattle.protocol.specs.Calls.{sendOf}
 use Rattle.state.specs.State.{senderEnd, stateLen, saved, stateCause}
-use Rattle.layout.specs.Numbers.{taken}
+use Rattle.protocol.specs.Histories.{isAccepted}
 use Rattle.state.proofs.KeptStates.{uncaused-length}
 use Rattle.library.specs.Calls.{Sending}
 use Rattle.library.proofs.Outcomes.{sendLeft, send-caused, send-uncaused}
@@ -59,7 +59,7 @@ returns-2 c =
     let a = begun one .args in
     ap₂ (outcome _ _) (at-save .save-answer .ensures .0)
     (at-save .save-answer .ensures .1
-    ∙ ap (λ (bytes : List ℕ). saved (taken (at-call .send .result .answer)) bytes (now (a .state))) (made .sender-bytes .ensures))
+    ∙ ap (λ (bytes : List ℕ). saved (isAccepted (at-call .send .result .answer)) bytes (now (a .state))) (made .sender-bytes .ensures))
     ∙ ap (sendLeft (now (a .state)))
     (at-call .send .ensures
     ∙ ap (λ (x : Sender). sendOf x (now (a .rows)) (now (a .message)) (now (a .frame))) (at-call .before .before .before .sender-in .ensures))
