@@ -49,8 +49,8 @@ fn sent(game: Game, call: Call, message: &[u8; 1040]) -> Game {
 
 // A message is drawn and sent, at times after a send with faults.
 fn sending(game: Game, x: &mut u64) -> Game {
-    let settings = game.settings;
     let before = game.sender;
+    let settings = before.settings;
     let exact = Call {
         settings: settings,
         due: before.due,
