@@ -1,7 +1,7 @@
 // What is wrong with a call: a set of faults is a sum of 1, 2, 4, 8, 16, 32 and 64.
 use crate::random;
 use code::Settings;
-use trace::Call;
+use cuts::Call;
 ghost use Prim.Native.Nat.{_≤_, _<_};
 
 // The settings with another window, delay and burst, and one scattered loss, where n is 17.
@@ -51,7 +51,7 @@ pub(crate) fn broken(s: Settings, way: usize) -> Settings {
 // One byte less is lent, or one byte more.
 pub(crate) fn off(cut: usize, more: bool) -> usize {
     if more {
-        return trace::end(cut, 1);
+        return cuts::end(cut, 1);
     }
     std::num::wrapping_add_usize(cut, 1)
 }

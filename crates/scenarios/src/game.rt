@@ -5,9 +5,9 @@ use crate::faults;
 use crate::random;
 use crate::rows;
 use code::Settings;
+use cuts::Call;
 use protocol::Receiver;
 use protocol::Sender;
-use trace::Call;
 
 // The buffers, and how many bytes at the end of each are zeros behind what it is for; how many losses of a burst are left over, whether
 // rows are drawn behind the receiver's back, the settings and both ends.

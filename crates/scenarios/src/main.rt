@@ -12,10 +12,10 @@ use game::Game;
 
 // The buffers drawn, and both ends opened in them.
 fn opened(s: Settings, lent: bool, x: &mut u64) -> Game {
-    let sent_cut = trace::end(32768, buffers::sender_len(s));
-    let received_cut = trace::end(32768, buffers::receiver_len(s));
-    let frame_cut = trace::end(1040, buffers::frame_len(s));
-    let buffer_cut = trace::end(1040, buffers::message_len(s));
+    let sent_cut = cuts::end(32768, buffers::sender_len(s));
+    let received_cut = cuts::end(32768, buffers::receiver_len(s));
+    let frame_cut = cuts::end(1040, buffers::frame_len(s));
+    let buffer_cut = cuts::end(1040, buffers::message_len(s));
     let mut sent = random::rows(sent_cut, x);
     let mut received = random::rows(received_cut, x);
     let frame = random::bytes(frame_cut, x);

@@ -20,7 +20,7 @@ pub(crate) fn below(x: &mut u64, m: usize) -> usize
 
 // Every byte but for so many at the end.
 pub(crate) fn fill(out: &mut [u8], cut: usize, x: &mut u64) {
-    let count = trace::end(out.len(), cut);
+    let count = cuts::end(out.len(), cut);
     let mut q: usize = 0;
     while q < count {
         out[q] = below(x, 256) as u8;

@@ -17,7 +17,7 @@ fn any_flag(x: &mut u64) -> u8 {
 fn flags(rows: &mut [u8], size: usize, cut: usize, x: &mut u64)
     requires { ⌜ 0 < size ⌝ }
 {
-    let count = trace::end(rows.len(), cut);
+    let count = cuts::end(rows.len(), cut);
     let mut q: usize = 0;
     while q < count {
         rows[q] = any_flag(x);

@@ -2,31 +2,14 @@
 // makes a thing of exact length, or one longer or shorter by one.
 use crate::print;
 use code::Settings;
+use cuts::Call;
+use cuts::end;
 use ends::receiver_at;
 use ends::sender_at;
 use protocol::Receiver;
 use protocol::Sender;
 ghost use mathlib.Core.Path.{_≡_};
-ghost use Rattle.trace.specs.Cuts.{endOf, openSenderCut, openReceiverCut, sendCut, heardCut, lossCut};
-
-// The state that a call starts from, and what is not lent of the rows and of the two things after them.
-pub struct Call {
-    pub settings: Settings,
-    pub due: u32,
-    pub rows: usize,
-    pub first: usize,
-    pub second: usize,
-}
-
-// The length that is left.
-pub fn end(length: usize, cut: usize) -> usize
-    ensures { λ r. ⌜ r ≡ endOf length cut ⌝ }
-{
-    if length < cut {
-        return 0;
-    }
-    length - cut
-}
+ghost use Rattle.cuts.specs.Cuts.{openSenderCut, openReceiverCut, sendCut, heardCut, lossCut};
 
 // An opening of the sender.
 pub fn open_sender(s: Settings, cut: usize, rows: &mut [u8]) -> Sender

@@ -2,8 +2,6 @@
 mod lent;
 mod print;
 
-pub use lent::Call;
-pub use lent::end;
 pub use lent::heard;
 pub use lent::loss;
 pub use lent::open_receiver;

@@ -1,7 +1,7 @@
 -- The report of a frame in cut buffers.
 use mathlib.Core.Path.{refl}
 use Prim.Native.Nat.{zero-le}
-use Rattle.trace.proofs.Cutting.{within, heard}
+use Rattle.cuts.proofs.Cutting.{within, heard}
 use Rattle.trace.proofs.lent.heard.Statement.{statement}
 use Rattle.trace.proofs.lent.heard.Tie as tie
 

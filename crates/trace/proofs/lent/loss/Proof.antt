@@ -1,7 +1,7 @@
 -- The report of a loss in cut buffers.
 use mathlib.Core.Path.{refl}
 use Prim.Native.Nat.{zero-le}
-use Rattle.trace.proofs.Cutting.{within, lost}
+use Rattle.cuts.proofs.Cutting.{within, lost}
 use Rattle.trace.proofs.lent.loss.Statement.{statement}
 use Rattle.trace.proofs.lent.loss.Tie as tie
 

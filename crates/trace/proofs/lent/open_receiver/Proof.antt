@@ -1,6 +1,6 @@
 -- The opening of the receiver in cut rows.
 use Prim.Native.Nat.{zero-le}
-use Rattle.trace.proofs.Cutting.{within, receiver-opened}
+use Rattle.cuts.proofs.Cutting.{within, receiver-opened}
 use Rattle.trace.proofs.lent.open_receiver.Statement.{statement}
 use Rattle.trace.proofs.lent.open_receiver.Tie as tie
 

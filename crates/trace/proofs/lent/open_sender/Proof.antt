@@ -1,6 +1,6 @@
 -- The opening of the sender in cut rows.
 use Prim.Native.Nat.{zero-le}
-use Rattle.trace.proofs.Cutting.{within, sender-opened}
+use Rattle.cuts.proofs.Cutting.{within, sender-opened}
 use Rattle.trace.proofs.lent.open_sender.Statement.{statement}
 use Rattle.trace.proofs.lent.open_sender.Tie as tie
 

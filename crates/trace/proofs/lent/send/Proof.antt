@@ -1,6 +1,6 @@
 -- The send in cut buffers.
 use Prim.Native.Nat.{zero-le}
-use Rattle.trace.proofs.Cutting.{within, sent}
+use Rattle.cuts.proofs.Cutting.{within, sent}
 use Rattle.trace.proofs.lent.send.Statement.{statement}
 use Rattle.trace.proofs.lent.send.Tie as tie
 

@@ -10,8 +10,8 @@ use Rattle.protocol.specs.declared.Sender.{Sender}
 use Rattle.protocol.specs.declared.Receiver.{Receiver}
 use Rattle.protocol.specs.States.{senderAt, receiverAt}
 use Rattle.protocol.specs.Calls.{OpenedSender, OpenedReceiver, Sent, Reported, openSenderOf, openReceiverOf, sendOf, heardOf, lossOf}
-use Rattle.trace.specs.declared.lent.Call.{Call}
-use Rattle.trace.specs.Cuts.{endOf, before, behind, openSenderCut, openReceiverCut, sendCut, reportCut, heardCut, lossCut}
+use Rattle.cuts.specs.declared.Call.{Call}
+use Rattle.cuts.specs.Cuts.{endOf, before, behind, openSenderCut, openReceiverCut, sendCut, reportCut, heardCut, lossCut}
 
 -- an end is within
 pub within : {e size : ℕ} (cut : ℕ) → e ≡ endOf size cut → e ≤ size

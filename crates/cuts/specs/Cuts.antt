@@ -7,7 +7,7 @@ use Rattle.protocol.specs.declared.Sender.{Sender}
 use Rattle.protocol.specs.declared.Receiver.{Receiver}
 use Rattle.protocol.specs.States.{senderAt, receiverAt}
 use Rattle.protocol.specs.Calls.{Reported, openSenderOf, sendOf, openReceiverOf, heardOf, lossOf}
-use Rattle.trace.specs.declared.lent.Call.{Call}
+use Rattle.cuts.specs.declared.Call.{Call}
 
 -- the length without the cut, 0 where there is less
 abbrev pub endOf : ℕ → ℕ → ℕ
