@@ -1,11 +1,14 @@
-// What both ends share in code: their states, made here alone, as protocol's specs/States.antt says; and whether a report was accepted.
+// What both ends share in code: their states, made here alone, as protocol's specs/States.antt says; the number of a cause; and whether
+// a report was accepted.
 use code::Settings;
+use protocol::Cause;
 use protocol::Receiver;
 use protocol::Reply;
 use protocol::Sender;
 ghost use mathlib.Core.Path.{_≡_};
 ghost use Prim.Native.Nat.{_≤_};
 ghost use Rattle.protocol.specs.Lengths.{lastSlot};
+ghost use Rattle.protocol.specs.Causes.{numberOf};
 ghost use Rattle.protocol.specs.Histories.{accepts};
 ghost use Rattle.protocol.specs.States.{senderAt, openedSender, sentOn, receiverAt, openedReceiver, reportedOn};
 
@@ -59,6 +62,20 @@ pub fn next_receiver(x: Receiver) -> Receiver
 {
     let s = x.settings;
     receiver_at(s, x.due + 1)
+}
+
+// Document 01's number for a cause.
+pub fn number_of(c: Cause) -> u32
+    ensures { λ r. ⌜ r ≡ numberOf c ⌝ }
+{
+    match c {
+        Cause::BadSettings => 1,
+        Cause::BadLength => 2,
+        Cause::PastLastSlot => 3,
+        Cause::OtherMark => 4,
+        Cause::OtherSettings => 5,
+        Cause::OtherSlot => 6,
+    }
 }
 
 // Whether a report was accepted.

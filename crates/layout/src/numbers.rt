@@ -1,7 +1,7 @@
 // The number of each answer and reply, and whether an opening or a send was taken.
+use ends::number_of;
 use protocol::Answer;
 use protocol::Reply;
-use protocol::number_of;
 ghost use mathlib.Core.Path.{_≡_};
 ghost use Rattle.protocol.specs.Histories.{isAccepted};
 ghost use Rattle.protocol.specs.Numbers.{answerNumber, replyNumber};

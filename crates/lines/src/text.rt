@@ -1,10 +1,10 @@
 // The writers of lines, over the start of a lent line that has room.
 use buffers::write_at;
+use ends::number_of;
 use numbers::write_decimal;
 use numbers::write_hex;
 use protocol::Cause;
 use protocol::Reply;
-use protocol::number_of;
 ghost use mathlib.Core.List.{_++_};
 ghost use Prim.Native.Nat.{_+_, _*_, _≤_};
 ghost use lib.ListN.{length};

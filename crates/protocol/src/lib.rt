@@ -1,10 +1,8 @@
 // The states of both ends, and what a call answers. Each call is a definition in specs/, the demands are statements about these
 // definitions, and proofs/ has their theorems.
-mod numbers;
 mod states;
 
 use code::Settings;
-pub use numbers::number_of;
 
 // A slot's number.
 pub struct Slot(pub u32);
@@ -26,7 +24,7 @@ pub struct Receiver {
     pub due: u32,
 }
 
-// Why a call says no, in the order of checking; `number_of` gives the numbers.
+// Why a call says no, in the order of checking; `numberOf` of specs/Causes.antt has the numbers.
 pub enum Cause {
     BadSettings,
     BadLength,

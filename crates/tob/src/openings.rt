@@ -1,9 +1,9 @@
 // The openings of both ends.
 use causes::open_cause;
+use ends::number_of;
 use frames::settings_at;
 use layout::save_answer;
 use protocol::Answer;
-use protocol::number_of;
 use state::STATE_LEN;
 use state::receiver_bytes;
 use state::sender_bytes;

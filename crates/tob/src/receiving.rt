@@ -1,7 +1,7 @@
 // The receiver's calls: the reports of frames and of losses.
+use ends::number_of;
 use layout::save_reply;
 use protocol::Answer;
-use protocol::number_of;
 use state::RECEIVER_END;
 use state::receiver_bytes;
 use state::receiver_in;

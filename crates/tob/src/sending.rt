@@ -1,7 +1,7 @@
 // The sender's call.
+use ends::number_of;
 use layout::save_answer;
 use protocol::Answer;
-use protocol::number_of;
 use state::SENDER_END;
 use state::sender_bytes;
 use state::sender_in;

@@ -1,8 +1,8 @@
 // The parts of a line. Each but the first has a space before it. No contract can say what is printed, and nothing lent is changed.
 use code::Settings;
+use ends::number_of;
 use protocol::Answer;
 use protocol::Reply;
-use protocol::number_of;
 ghost use Prim.Native.Nat.{_<_};
 
 // A number.
