@@ -1,7 +1,7 @@
 -- What a table of causes says: where it finds none, none of its conditions holds; of two, one below the other; the opening's table at
 -- either end, and that of every call in a slot.
 use mathlib.Core.Path.{_≡_, refl}
-use mathlib.Core.Bool.{Bool, true, false, cond, not, _&&_}
+use mathlib.Core.Bool.{Bool, true, false, cond, not}
 use mathlib.Core.List.{List, [], _∷_, _++_}
 use Prim.Native.Nat.{ℕ, _≤_}
 use native.Mathlib.Omega.{arith}

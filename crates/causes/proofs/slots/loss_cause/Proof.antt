@@ -1,11 +1,11 @@
 -- The table of a call in a slot, with the lengths of this one.
 use borrow.Author.Needs.{needs}
-use mathlib.Core.Path.{_≡_, ap, _∙_}
+use mathlib.Core.Path.{ap, _∙_}
 use mathlib.Core.Bool.{Bool}
 use Prim.Native.Nat.{ℕ}
 use denote.Ref.{now}
 use lib.ListN.{length}
-use Rattle.protocol.specs.Lengths.{receiverLen, exactly}
+use Rattle.protocol.specs.Lengths.{exactly}
 use Rattle.protocol.specs.Causes.{slotCause, lossCause}
 use Rattle.causes.proofs.slots.loss_cause.Statement.{statement}
 use Rattle.causes.proofs.slots.loss_cause.Tie as tie

@@ -1,11 +1,11 @@
 -- The table of a call in a slot, with the lengths of this one.
 use borrow.Author.Needs.{needs}
-use mathlib.Core.Path.{_≡_, ap, _∙_}
+use mathlib.Core.Path.{ap, _∙_}
 use mathlib.Core.Bool.{Bool}
 use Prim.Native.Nat.{ℕ}
 use denote.Ref.{now}
 use lib.ListN.{length}
-use Rattle.protocol.specs.Lengths.{senderLen, exactlyFramed}
+use Rattle.protocol.specs.Lengths.{exactlyFramed}
 use Rattle.protocol.specs.Causes.{slotCause, sendCause}
 use Rattle.causes.proofs.slots.send_cause.Statement.{statement}
 use Rattle.causes.proofs.slots.send_cause.Tie as tie

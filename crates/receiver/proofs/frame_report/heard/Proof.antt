@@ -1,15 +1,13 @@
 -- A cause that is found refuses the frame, and else the report moves on by its row.
 use borrow.Author.Needs.{needs}
-use mathlib.Core.Path.{_≡_, refl, sym, ap, ap₂, _∙_}
+use mathlib.Core.Path.{_≡_, refl, sym, ap, _∙_}
 use mathlib.Core.List.{List, _∷_}
 use native.Mathlib.Omega.{arith}
 use Prim.Native.Nat.{ℕ}
 use denote.Ref.{now}
 use lib.ListN.{length, drop, length-drop}
 use Rattle.code.specs.declared.settings.Settings.{Settings}
-use Rattle.protocol.specs.declared.Receiver.{Receiver}
-use Rattle.protocol.specs.declared.Reply.{Reply}
-use Rattle.protocol.specs.Calls.{Reported, toldBy, movedOn}
+use Rattle.protocol.specs.Calls.{toldBy, movedOn}
 use Rattle.protocol.specs.declared.Answer.the-variants as answer
 use Rattle.protocol.specs.Causes.{frameCause}
 use Rattle.protocol.specs.Lengths.{frameLen, rowLen}

@@ -1,13 +1,9 @@
 -- A cause that is found refuses the loss, and else the report moves on by a row of zeros.
 use borrow.Author.Needs.{needs}
-use mathlib.Core.Path.{_≡_, refl, sym, ap, ap₂, _∙_}
-use mathlib.Core.List.{List}
-use Prim.Native.Nat.{ℕ}
+use mathlib.Core.Path.{_≡_, refl, sym, ap, _∙_}
 use denote.Ref.{now}
 use lib.ListN.{length, replicate, length-replicate}
-use Rattle.protocol.specs.declared.Receiver.{Receiver}
-use Rattle.protocol.specs.declared.Reply.{Reply}
-use Rattle.protocol.specs.Calls.{Reported, toldBy, movedOn}
+use Rattle.protocol.specs.Calls.{toldBy, movedOn}
 use Rattle.protocol.specs.declared.Answer.the-variants as answer
 use Rattle.protocol.specs.Causes.{lossCause}
 use Rattle.protocol.specs.Lengths.{rowLen}
