@@ -5,7 +5,7 @@ use Rattle.galois.proofs.Arithmetic.{arithmetic}
 use Rattle.code.specs.Settings.{delayOf, kOf, nOf, dOf, all, accepted}
 use Rattle.code.specs.Matrix.{point, factor, product, spread, alphaEntry, entry}
 use Rattle.code.specs.Word.{wordAt, multipliers, symbol, unit, systematicOf}
-use Rattle.repair.specs.Fair.{losses, runAt, oneRun, fairStretch, fairSlots}
+use Rattle.repair.specs.Fair.{losses, firstLoss, lastLoss, distance, fairStretch, fairSlots}
 use Rattle.elimination.specs.Elimination.{cell, free, pivotFrom, scaledAt, cleared, pivoted, columnStep, firstRoles, columns, eliminated}
 use Rattle.elimination.specs.Elimination.{combined, clashes, differs, symbolOf}
 use Rattle.protocol.specs.Lengths.{lastSlot, messageLen, bodyLen, frameLen, senderLen, rowLen, rowCount, receiverLen}
@@ -21,7 +21,7 @@ use Rattle.protocol.proofs.QuickVerdict.{quickSymbol, quickReply, quickMoved, q
 unfoldable pub computing : Unit {0}
 unfolding count table arithmetic delayOf kOf nOf dOf all accepted
     point factor product spread alphaEntry entry wordAt multipliers symbol unit systematicOf
-    losses runAt oneRun fairStretch fairSlots
+    losses firstLoss lastLoss distance fairStretch fairSlots
     cell free pivotFrom scaledAt cleared pivoted columnStep firstRoles columns eliminated combined clashes differs symbolOf
     lastSlot messageLen bodyLen frameLen senderLen rowLen rowCount receiverLen putRow joined
     mark five slotBytes header remembered sentSymbol bodyOf frameOf agree openCause sendCause lossCause frameCauseOf

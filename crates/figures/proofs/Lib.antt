@@ -1,4 +1,6 @@
 pub mod Computing
 pub mod Card
 pub mod Example
+pub mod Claimed
 pub mod FigureTen
+pub mod Fade

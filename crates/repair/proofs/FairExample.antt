@@ -2,9 +2,9 @@
 use mathlib.Core.Bool.{Bool, not, _||_}
 use Prim.Native.Nat.{ℕ}
 use lib.Dec.{T, ltb, eqb}
-use Rattle.galois.specs.Bounded.{every, any, count}
+use Rattle.galois.specs.Bounded.{every, count}
 use Rattle.code.specs.declared.settings.Settings.{Settings}
-use Rattle.repair.specs.Fair.{losses, runAt, oneRun, fairStretch, Fair, fairSlots}
+use Rattle.repair.specs.Fair.{losses, firstLoss, lastLoss, distance, fairStretch, Fair, fairSlots}
 use Rattle.repair.proofs.FairTest.{fair-tested}
 
 -- W = 4, T = 3, B = 2, N = 2, L = 1
@@ -17,10 +17,10 @@ apart t = ltb t 2 || eqb t 4
 
 -- slots 0 to 4 are fair
 pub fair-apart : Fair small apart 0 4
-unfolding fairSlots every any count fairStretch losses runAt oneRun small apart
+unfolding fairSlots every count fairStretch losses distance firstLoss lastLoss small apart
 fair-apart = fair-tested small apart 0 4 .0 tt
 
--- though three losses that are no unbroken run would be too many for one stretch
+-- though three losses that far apart would be too many for one stretch
 pub not-at-once : T (not (fairStretch small apart 0 5))
-unfolding every any count fairStretch losses runAt oneRun small apart
+unfolding count fairStretch losses distance firstLoss lastLoss small apart
 not-at-once = tt

@@ -11,6 +11,8 @@ pub mod LateLoss
 pub mod BurstLoss
 pub mod ScatteredLoss
 pub mod OneCodeword
-pub mod Window
+pub mod Stretch
+pub mod FairLaws
 pub mod FairTest
 pub mod FairExample
+pub mod Window
