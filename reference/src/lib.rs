@@ -1,4 +1,5 @@
-//! A plain reference of document 01, the tote broadcast: one module a section.
+//! A plain reference of document 01, the tote broadcast, with what document 02 changed of it so
+//! far (§1): one module a section.
 //! It is written for reading beside the document, not for speed.
 
 #![forbid(unsafe_code)]
@@ -7,6 +8,7 @@ pub mod against;
 pub mod broadcast;
 pub mod card;
 pub mod drawn;
+pub mod fair;
 pub mod field;
 pub mod frame;
 pub mod linear;

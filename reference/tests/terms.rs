@@ -1,74 +1,122 @@
-//! Demand 3, tried on every loss pattern of ten slots for four small codes.
+//! Demand 3 under the wider rule of document 02, §1: every loss pattern of ten slots for some
+//! small codes, and for every code drawn patterns with frames heard inside a fade.
 
 #![forbid(unsafe_code)]
 
+use reference::broadcast::{self, Frames};
+use reference::fair::{fades, fair, promised, promised_in_a_fade};
+use reference::frame::message_length;
+use reference::patterns::Draws;
 use reference::receiver::{self, Reply};
-use reference::settings::Settings;
-use reference::{frame, sender};
+use reference::settings::{every_code, Settings};
 
 const SLOTS: usize = 10;
 
-/// At most N losses, or only one unbroken run of at most B.
-fn stretch_is_easy(code: &Settings, losses: &[usize]) -> bool {
-    let (Some(first), Some(last)) = (losses.first(), losses.last()) else { return true };
-    let unbroken = last - first + 1 == losses.len();
-    losses.len() <= code.scattered as usize || unbroken && losses.len() <= code.burst as usize
+/// Drawn messages and the sender's frames for them.
+struct Broadcast {
+    code: Settings,
+    messages: Vec<Vec<u8>>,
+    frames: Frames,
 }
 
-/// Every stretch of at most W slots among slots t − k + 1 to t + T is easy.
-fn terms_met(code: &Settings, lost: u32, t: usize) -> bool {
-    // Slots before 0 count as heard.
-    let (first, end) = ((t + 1).saturating_sub(code.k()), t + code.t() + 1);
-    (first..end).all(|from| {
-        let stretch = from..end.min(from + code.window as usize);
-        let losses: Vec<usize> = stretch.filter(|slot| (lost >> slot) & 1 == 1).collect();
-        stretch_is_easy(code, &losses)
-    })
-}
-
-fn message(code: &Settings, slot: usize) -> Vec<u8> {
-    (0..frame::message_length(code)).map(|i| (slot * 53 + i * 101 + 7) as u8).collect()
-}
-
-fn frames(code: Settings) -> Vec<Vec<u8>> {
-    let mut rows = vec![9; sender::rows_length(&code)];
-    let (mut state, _) = sender::open(code, &mut rows);
-    let mut frames = vec![vec![0; frame::length(&code)]; SLOTS];
-    for (slot, frame) in frames.iter_mut().enumerate() {
-        (state, _) = sender::send(state, &mut rows, &message(&code, slot), frame);
+impl Broadcast {
+    fn drawn(draws: &mut Draws, code: Settings, slots: usize) -> Broadcast {
+        let length = message_length(&code);
+        let messages: Vec<Vec<u8>> = (0..slots).map(|_| draws.bytes(length)).collect();
+        let frames = broadcast::of(code, &messages);
+        Broadcast { code, messages, frames }
     }
-    frames
-}
 
-/// Plays one pattern; how many messages met the terms, all of them being whole, as sent.
-fn whole_as_sent(code: Settings, frames: &[Vec<u8>], lost: u32) -> usize {
-    let mut rows = vec![9; receiver::rows_length(&code)];
-    let (mut state, _) = receiver::open(code, &mut rows);
-    let mut buffer = vec![9; frame::message_length(&code)];
-    let mut met = 0;
-    for (slot, frame) in frames.iter().enumerate() {
-        let reply;
-        (state, reply) = if (lost >> slot) & 1 == 1 {
-            receiver::report_loss(state, &mut rows, &mut buffer)
-        } else {
-            receiver::report_frame(state, &mut rows, frame, &mut buffer)
-        };
-        // The sender's own frames never clash.
-        assert_ne!(reply, Ok(Reply::Clash));
-        if slot >= code.t() && terms_met(&code, lost, slot - code.t()) {
-            met += 1;
-            assert_eq!((reply, &buffer), (Ok(Reply::Whole), &message(&code, slot - code.t())));
+    /// Plays one pattern: how many messages are promised, and how many by the wider rule only.
+    /// Each of them must be whole, as sent.
+    fn promised(&self, lost: &[bool]) -> [usize; 2] {
+        let code = self.code;
+        let mut rows = vec![9; receiver::rows_length(&code)];
+        let (mut state, _) = receiver::open(code, &mut rows);
+        let mut buffer = vec![9; message_length(&code)];
+        let mut met = [0; 2];
+        for (slot, frame) in self.frames.iter().enumerate() {
+            let reply;
+            (state, reply) = if lost[slot] {
+                receiver::report_loss(state, &mut rows, &mut buffer)
+            } else {
+                receiver::report_frame(state, &mut rows, frame, &mut buffer)
+            };
+            // The sender's own frames never clash.
+            assert_ne!(reply, Ok(Reply::Clash));
+            if slot >= code.t() && promised(&code, lost, slot - code.t()) {
+                let t = slot - code.t();
+                assert_eq!((reply, &buffer), (Ok(Reply::Whole), &self.messages[t]), "{code:?}");
+                met[0] += 1;
+                met[1] += usize::from(promised_in_a_fade(&code, lost, t));
+            }
         }
+        met
     }
-    met
 }
 
 #[test]
-fn messages_that_meet_the_terms_are_whole_as_sent() {
-    for (delay, burst, scattered) in [(1, 1, 1), (2, 2, 1), (3, 2, 2), (3, 3, 2)] {
-        let code = Settings::of_code(delay, burst, scattered);
-        let frames = frames(code);
-        let met: usize = (0..1 << SLOTS).map(|lost| whole_as_sent(code, &frames, lost)).sum();
-        assert!(met > 1000);
+fn every_pattern_of_ten_slots() {
+    let mut draws = Draws::from(20261121);
+    for (code, wider) in [
+        (Settings::of_code(1, 1, 1), false),
+        (Settings::of_code(2, 2, 1), false),
+        (Settings::of_code(3, 2, 2), false),
+        (Settings::of_code(3, 3, 2), false),
+        (Settings::of_code(3, 3, 1), true),
+        (Settings::of_code(4, 4, 2), true),
+        (Settings { window: 7, ..Settings::of_code(5, 4, 1) }, true),
+    ] {
+        let sent = Broadcast::drawn(&mut draws, code, SLOTS);
+        let mut met = [0; 2];
+        for bits in 0..1u32 << SLOTS {
+            let lost: Vec<bool> = (0..SLOTS).map(|slot| bits >> slot & 1 == 1).collect();
+            let of_pattern = sent.promised(&lost);
+            met = [met[0] + of_pattern[0], met[1] + of_pattern[1]];
+        }
+        assert!(met[0] > 500 && (met[1] > 50) == wider, "{code:?} {met:?}");
     }
+}
+
+/// A fade, W − 1 heard slots or a few more, another fade, and the T slots behind its last one.
+fn two_fades(draws: &mut Draws, code: &Settings, fades: &[Vec<bool>]) -> Vec<bool> {
+    let mut lost = vec![false; draws.below(code.t() + 1)];
+    lost.extend(&fades[draws.below(fades.len())]);
+    lost.resize(lost.len() + code.t() + draws.below(3), false);
+    lost.extend(&fades[draws.below(fades.len())]);
+    lost.resize(lost.len() + code.t(), false);
+    lost
+}
+
+/// A fade, and before and after it losses wherever every stretch stays fair.
+fn fade_and_losses(draws: &mut Draws, code: &Settings, fades: &[Vec<bool>]) -> Vec<bool> {
+    let fade = &fades[draws.below(fades.len())];
+    let from = draws.below(code.t() + 1);
+    let end = from + fade.len();
+    let mut lost = vec![false; end + code.t()];
+    lost[from..end].copy_from_slice(fade);
+    for slot in (0..lost.len()).filter(|slot| !(from..end).contains(slot)) {
+        lost[slot] = draws.below(2) == 0;
+        lost[slot] &= lost.windows(usize::from(code.window)).all(|stretch| fair(code, stretch));
+    }
+    lost
+}
+
+#[test]
+fn frames_heard_inside_fades_of_every_code() {
+    let mut draws = Draws::from(20261122);
+    let mut codes = 0;
+    for code in every_code() {
+        let fades = fades(&code);
+        if fades.is_empty() {
+            continue;
+        }
+        for drawn in [two_fades, fade_and_losses] {
+            let lost = drawn(&mut draws, &code, &fades);
+            let [all, wider] = Broadcast::drawn(&mut draws, code, lost.len()).promised(&lost);
+            assert!(all == lost.len() - code.t() && wider > 0, "{code:?} {lost:?}");
+        }
+        codes += 1;
+    }
+    assert_eq!(codes, every_code().iter().filter(|code| code.scattered + 2 <= code.burst).count());
 }

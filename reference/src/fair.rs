@@ -1,0 +1,168 @@
+//! Fair losses (demand 3): which stretches of slots are fair, and which messages are promised.
+//! The rule is document 02's, §1; document 01's narrower one tells what is fair only since then.
+
+use crate::settings::Settings;
+
+/// Whether a stretch of slots is fair: for each of them, whether it was lost.
+type Rule = fn(&Settings, &[bool]) -> bool;
+
+/// Document 02, §1: at most N losses, or the last is at most B − 1 slots behind the first.
+/// What is heard between the two makes no difference.
+pub fn fair(settings: &Settings, stretch: &[bool]) -> bool {
+    let (count, span) = count_and_span(stretch);
+    count <= usize::from(settings.scattered) || span <= usize::from(settings.burst)
+}
+
+/// Document 01: at most N losses, or a single run of at most B, with nothing heard inside it.
+pub fn fair_by_01(settings: &Settings, stretch: &[bool]) -> bool {
+    let (count, span) = count_and_span(stretch);
+    let unbroken = span == count;
+    count <= usize::from(settings.scattered) || unbroken && count <= usize::from(settings.burst)
+}
+
+/// How many slots of a stretch are lost, and how many there are from the first loss to the last.
+fn count_and_span(stretch: &[bool]) -> (usize, usize) {
+    let count = stretch.iter().filter(|lost| **lost).count();
+    let first = stretch.iter().position(|lost| *lost);
+    let last = stretch.iter().rposition(|lost| *lost);
+    (count, last.zip(first).map_or(0, |(last, first)| last - first + 1))
+}
+
+/// Whether message t is promised. The list says of each slot from 0 to t + T whether it was lost.
+pub fn promised(settings: &Settings, lost: &[bool], t: usize) -> bool {
+    every_stretch(settings, lost, t, fair)
+}
+
+/// The same under document 01's rule.
+pub fn promised_by_01(settings: &Settings, lost: &[bool], t: usize) -> bool {
+    every_stretch(settings, lost, t, fair_by_01)
+}
+
+/// Promised, and not so under document 01's rule: a frame was heard inside a fade.
+pub fn promised_in_a_fade(settings: &Settings, lost: &[bool], t: usize) -> bool {
+    promised(settings, lost, t) && !promised_by_01(settings, lost, t)
+}
+
+/// Every stretch of at most W slots among slots t − k + 1 to t + T; those before 0 are heard.
+fn every_stretch(settings: &Settings, lost: &[bool], t: usize, rule: Rule) -> bool {
+    let before = settings.k().saturating_sub(t + 1);
+    let from = (t + 1).saturating_sub(settings.k());
+    let slots = [&vec![false; before], &lost[from..=t + settings.t()]].concat();
+    let longest = usize::from(settings.window).min(slots.len());
+    (1..=longest).all(|length| slots.windows(length).all(|stretch| rule(settings, stretch)))
+}
+
+/// Every fade of a code: at most B slots and more than N losses, the first and the last slot
+/// among them, and a frame heard in between. There are some exactly where N + 2 ≤ B.
+pub fn fades(settings: &Settings) -> Vec<Vec<bool>> {
+    let all = (3..=usize::from(settings.burst)).flat_map(|length| {
+        let inner = move |bits: u32| (0..length - 2).map(move |slot| bits >> slot & 1 == 1);
+        let fade = move |bits| [true].into_iter().chain(inner(bits)).chain([true]).collect();
+        (0..1 << (length - 2)).map(fade)
+    });
+    all.filter(|fade: &Vec<bool>| !fair_by_01(settings, fade)).collect()
+}
+
+#[cfg(test)]
+mod tests {
+    use super::*;
+    use crate::settings::every_code;
+
+    /// So many slots, of which these are lost.
+    fn lost<const COUNT: usize>(slots: usize, lost: [usize; COUNT]) -> Vec<bool> {
+        (0..slots).map(|slot| lost.contains(&slot)).collect()
+    }
+
+    /// Every stretch of so many slots.
+    fn every(slots: usize) -> impl Iterator<Item = Vec<bool>> {
+        let stretch = move |bits: u32| (0..slots).map(|slot| bits >> slot & 1 == 1).collect();
+        (0..1 << slots).map(stretch)
+    }
+
+    /// Whether a stretch is fair, and whether it is so under document 01's rule.
+    fn both(code: &Settings, stretch: &[bool]) -> (bool, bool) {
+        (fair(code, stretch), fair_by_01(code, stretch))
+    }
+
+    #[test]
+    fn what_is_promised_on_the_card() {
+        let code = Settings::of_code(3, 2, 2);
+        for promised in [promised, promised_by_01] {
+            assert!(promised(&code, &lost(9, [0, 1]), 0));
+            assert!(promised(&code, &lost(9, [0, 3]), 0));
+            assert!(!promised(&code, &lost(9, [1, 2, 4]), 1));
+            assert!(promised(&code, &lost(9, [1, 2, 7]), 3));
+            // Case 11: messages 0 and 1 are lost, and message 2 is whole.
+            let case_11 = lost(9, [0, 1, 2]);
+            assert_eq!([0, 1, 2].map(|t| promised(&code, &case_11, t)), [false, false, true]);
+        }
+    }
+
+    #[test]
+    fn a_frame_heard_inside_a_fade_of_four() {
+        let code = Settings::of_code(4, 4, 1);
+        assert_eq!(both(&code, &lost(8, [1, 2, 3, 4])), (true, true));
+        // Message t has slots t − 3 to t + 4; it counts where they hold losses on both sides of
+        // the frame heard.
+        for (fade, messages) in [([3, 4, 6], 2..8), ([3, 5, 6], 1..7)] {
+            let lost = lost(16, fade);
+            assert_eq!(both(&code, &lost[1..9]), (true, false));
+            assert!((0..12).all(|t| promised(&code, &lost, t)));
+            let only = (0..12).filter(|&t| promised_in_a_fade(&code, &lost, t));
+            assert!(only.eq(messages));
+        }
+    }
+
+    #[test]
+    fn a_first_and_a_last_loss_too_far_apart() {
+        let code = Settings::of_code(4, 4, 1);
+        assert_eq!(both(&code, &lost(8, [1, 4])), (true, false));
+        assert_eq!(both(&code, &lost(8, [1, 5])), (false, false));
+        assert_eq!(both(&code, &lost(8, [0, 2, 4, 6])), (false, false));
+        assert_eq!(both(&code, &lost(8, [0, 1, 2, 3, 4])), (false, false));
+        // So many losses may be anywhere, but not one more.
+        let code = Settings::of_code(5, 4, 3);
+        assert_eq!(both(&code, &lost(8, [0, 3, 7])), (true, true));
+        assert_eq!(both(&code, &lost(8, [0, 1, 3, 7])), (false, false));
+    }
+
+    #[test]
+    fn fades_in_stretches_of_their_own() {
+        // W is 5: between the two fades W − 1 slots are heard, or one less.
+        let code = Settings::of_code(4, 4, 1);
+        let (apart, nearer) = (lost(16, [0, 2, 3, 8, 10, 11]), lost(16, [0, 2, 3, 7, 9, 10]));
+        assert!((0..12).all(|t| promised(&code, &apart, t)));
+        // Message t has slots t − 3 to t + 4: of the nearer fades message 2 sees the first alone,
+        // and message 7 the second.
+        let kept = (0..12).filter(|&t| promised(&code, &nearer, t));
+        assert!(kept.eq([0, 1, 2, 7, 8, 9, 10, 11]));
+    }
+
+    #[test]
+    fn the_wider_rule_is_wider_and_a_frame_more_never_harms() {
+        for code in every_code().iter().filter(|code| code.delay <= 8) {
+            for stretch in every(9).filter(|stretch| fair_by_01(code, stretch)) {
+                assert!(fair(code, &stretch));
+            }
+            for mut stretch in every(9).filter(|stretch| fair(code, stretch)) {
+                for slot in 0..9 {
+                    let was = std::mem::replace(&mut stretch[slot], false);
+                    assert!(fair(code, &stretch));
+                    stretch[slot] = was;
+                }
+            }
+        }
+    }
+
+    #[test]
+    fn a_code_has_fades_exactly_where_n_and_2_are_at_most_b() {
+        for code in every_code() {
+            let wider = |stretch: &Vec<bool>| both(&code, stretch) == (true, false);
+            let some = every(usize::from(code.burst)).any(|stretch| wider(&stretch));
+            let fades = fades(&code);
+            assert_eq!(some, code.scattered + 2 <= code.burst);
+            assert_eq!(some, !fades.is_empty());
+            assert!(fades.iter().all(wider));
+        }
+    }
+}
