@@ -1,5 +1,5 @@
 //! The example recordings, with what is printed for each: written by the reference's own
-//! sender from one fixed start of the draws.
+//! sender from fixed starts of the draws.
 
 use std::fs;
 use std::io;
@@ -29,6 +29,7 @@ pub fn examples() -> Vec<Example> {
     let parts = [
         card(),
         played(&mut draws, &clean),
+        vec![("fade", fade())],
         stopped_before_the_first_line(&clean),
         stopped_at_a_frame(&clean),
         gaps(&mut draws),
@@ -97,6 +98,14 @@ fn runners(draws: &mut Draws, race: usize) -> Vec<u8> {
 fn widest(draws: &mut Draws) -> Vec<u8> {
     let settings = Settings { window: 255, lanes: 64, ..Settings::of_code(8, 8, 1) };
     without(&broadcast::drawn(draws, settings, 24), 5..13).concat()
+}
+
+/// Two fades of B slots, in stretches of their own: in each a frame got through, at another place.
+/// Its draws start on their own, so that the other examples keep theirs.
+fn fade() -> Vec<u8> {
+    let settings = Settings { window: 9, lanes: 2, ..Settings::of_code(6, 4, 1) };
+    let frames = broadcast::drawn(&mut Draws::from(20261123), settings, 30);
+    without(&frames, [6, 7, 9, 18, 20, 21]).concat()
 }
 
 /// Causes 2, 1 and 2 again, before any message line.

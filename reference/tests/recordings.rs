@@ -5,11 +5,13 @@
 use std::collections::BTreeMap;
 use std::sync::OnceLock;
 
+use reference::fair::{promised, promised_in_a_fade};
+use reference::frame;
 use reference::play::transcript;
 use reference::recordings::{examples, Example};
 
 struct Played {
-    length: usize,
+    recording: Vec<u8>,
     printed: String,
 }
 
@@ -18,7 +20,7 @@ fn played() -> &'static BTreeMap<&'static str, Played> {
     static PLAYED: OnceLock<BTreeMap<&'static str, Played>> = OnceLock::new();
     let play = |(name, recording): Example| {
         let printed = String::from_utf8(transcript(&recording)).expect("text");
-        (name, Played { length: recording.len(), printed })
+        (name, Played { recording, printed })
     };
     PLAYED.get_or_init(|| examples().into_iter().map(play).collect())
 }
@@ -34,8 +36,8 @@ fn count(name: &str, word: &str) -> usize {
 
 #[test]
 fn names_differ_and_the_files_stay_small() {
-    assert_eq!(played().len(), 35);
-    let bytes: usize = played().values().map(|one| one.length + one.printed.len()).sum();
+    assert_eq!(played().len(), 36);
+    let bytes: usize = played().values().map(|one| one.recording.len() + one.printed.len()).sum();
     assert!(bytes < 700_000);
 }
 
@@ -64,7 +66,20 @@ fn played_examples_print_what_they_are_for() {
     assert_eq!((count("clean", "whole"), count("too-many", "lost")), (34, 5));
     assert_eq!((count("damaged", "clash"), count("damaged", "lost")), (5, 0));
     assert_eq!((count("july", "lost"), count("july", "whole")), (5, 66));
-    assert_eq!(count("widest", "whole"), 16);
+    assert_eq!((count("widest", "whole"), count("fade", "whole")), (16, 24));
+}
+
+#[test]
+fn the_fades_of_the_example_are_fair_by_the_wider_rule_only() {
+    let recording = &played()["fade"].recording;
+    let settings = frame::settings(recording);
+    let frames = recording.chunks_exact(frame::length(&settings));
+    let heard: Vec<usize> = frames.map(|one| frame::slot(one) as usize).collect();
+    let lost: Vec<bool> = (0..30).map(|slot| !heard.contains(&slot)).collect();
+    assert!((0..24).all(|t| promised(&settings, &lost, t)));
+    // Only messages 0, 1, 2 and 13 have no slots on both sides of a frame heard in a fade.
+    let wider = (0..24).filter(|&t| promised_in_a_fade(&settings, &lost, t));
+    assert!(wider.eq((3..13).chain(14..24)));
 }
 
 #[test]
@@ -78,7 +93,8 @@ fn july_is_readable() {
 
 #[test]
 fn examples_of_a_length_have_it() {
+    let length = |name: &str| played()[name].recording.len();
     let lengths = ["full", "full-long-frames", "full-and-one", "stop-2-long"];
-    assert_eq!(lengths.map(|name| played()[name].length), [65536, 65536, 65537, 65537]);
-    assert_eq!(["stop-2-short", "stop-2-header"].map(|name| played()[name].length), [13, 14]);
+    assert_eq!(lengths.map(length), [65536, 65536, 65537, 65537]);
+    assert_eq!(["stop-2-short", "stop-2-header"].map(length), [13, 14]);
 }
