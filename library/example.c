@@ -7,16 +7,19 @@
 
 #include "tob.h"
 
-/* Of any 9 slots in a row, one burst of 3 may be lost, or any 2; a message comes out 5 slots later; 2 lanes. */
-enum { WINDOW = 9, DELAY = 5, BURST = 3, SCATTERED = 2, LANES = 2 };
+/* Of any 9 slots in a row, any 2 may be lost, or any number within 4 slots in a row, whatever is heard among them;
+ * a message comes out 5 slots later; 2 lanes. */
+enum { WINDOW = 9, DELAY = 5, BURST = 4, SCATTERED = 2, LANES = 2 };
 static const uint8_t settings[TOB_SETTINGS_LEN] = {WINDOW, DELAY, BURST, SCATTERED, LANES};
 
 enum { SLOTS = 56, SOURCES = DELAY - SCATTERED + 1 };
 
-/* The slots that are lost: a burst of 3, then 2 scattered losses, and last a burst of 6, which is not fair. */
+/* The slots that are lost: 3 of a fade of 4, in which slot 12 is heard, then 2 scattered losses, and last a burst of
+ * 6, which is not fair. */
 static bool is_lost(int slot)
 {
-    return (10 <= slot && slot <= 12) || slot == 24 || slot == 28 || (38 <= slot && slot <= 43);
+    bool fade = 10 <= slot && slot <= 13 && slot != 12;
+    return fade || slot == 24 || slot == 28 || (38 <= slot && slot <= 43);
 }
 
 /* Whether the slots that carry message t, and what repairs it, have fair losses. They are WINDOW slots here. */
@@ -30,7 +33,7 @@ static bool is_fair(int t)
             losses++;
         }
     }
-    return losses <= SCATTERED || (losses <= BURST && last - first + 1 == losses);
+    return losses <= SCATTERED || last - first <= BURST - 1;
 }
 
 /* Message t: t, t + 1, t + 2, and so on. */

@@ -24,7 +24,9 @@ pub struct Met {
     /// Settings handed to the four length functions.
     pub lengths: usize,
     /// Messages due under fair losses; each was handed out whole, as sent.
-    pub fair: usize,
+    fair: usize,
+    /// How many of them were promised by the wider rule only, by code.
+    fades: BTreeMap<Code, usize>,
 }
 
 impl Met {
@@ -32,10 +34,17 @@ impl Met {
     pub fn add(&mut self, kind: Kind, reply: u32, settings: Option<Settings>) {
         *self.replies.entry((kind, reply)).or_default() += 1;
         if let (true, Some(s)) = (matches!(reply, 0 | 16..=19), settings) {
-            let code = (s.delay, s.burst, s.scattered);
-            self.codes.entry(code).or_default().insert((kind, reply));
+            self.codes.entry(code_of(&s)).or_default().insert((kind, reply));
             self.lanes.insert(s.lanes);
             self.windows.insert(s.window);
+        }
+    }
+
+    /// One message that was promised, and was whole, as sent.
+    pub fn add_promised(&mut self, settings: &Settings, in_a_fade: bool) {
+        self.fair += 1;
+        if in_a_fade {
+            *self.fades.entry(code_of(settings)).or_default() += 1;
         }
     }
 
@@ -70,6 +79,9 @@ impl Met {
         }
         lines.push(format!("settings handed to the length functions: {}", grouped(self.lengths)));
         lines.push(format!("messages due under fair losses, all whole: {}", grouped(self.fair)));
+        let (in_fades, codes) = (grouped(self.fades.values().sum()), self.fades.len());
+        let only = "of these, promised by the wider rule only";
+        lines.push(format!("{only}: {in_fades}, of {codes} (T, B, N)"));
         let (lanes, windows) = (self.lanes.len(), self.windows.len());
         lines.push(format!("different L: {lanes}; different W: {windows}"));
         let (met, covered) = (self.codes.len(), self.covered());
@@ -100,9 +112,21 @@ impl Met {
         for lanes in [1, 2, 3, 16, 64] {
             due(self.lanes.contains(&lanes), format!("L = {lanes} was never accepted"));
         }
+        let (met, count) = (self.fades.len(), with_fades());
+        let only = "(T, B, N) had a message promised by the wider rule only";
+        due(met == count, format!("{met} {only}, and not {count}"));
         due(self.lengths > 0 && self.fair > 0, "a part did not run".to_string());
         missing
     }
+}
+
+fn code_of(settings: &Settings) -> Code {
+    (settings.delay, settings.burst, settings.scattered)
+}
+
+/// How many codes have fades of more than N losses in which a frame is heard.
+fn with_fades() -> usize {
+    every_code().iter().filter(|code| code.scattered + 2 <= code.burst).count()
 }
 
 /// Each cause that document 01's table has for a kind of call.
@@ -146,6 +170,20 @@ mod tests {
     #[test]
     fn a_comparison_that_met_nothing_does_not_count() {
         assert!(Met::default().missing().len() > REPLIES.len());
+    }
+
+    #[test]
+    fn a_fade_is_missing_until_every_code_that_has_them_met_one() {
+        let missing = |met: &Met| met.missing().iter().any(|text| text.contains("wider rule"));
+        let codes = every_code().into_iter().filter(|code| code.scattered + 2 <= code.burst);
+        let mut met = Met::default();
+        for code in codes {
+            assert!(missing(&met));
+            met.add_promised(&code, false);
+            assert!(missing(&met));
+            met.add_promised(&code, true);
+        }
+        assert!(!missing(&met));
     }
 
     #[test]

@@ -1,32 +1,55 @@
 //! Lists of calls of both ends from their openings on: sends, and reports of the sender's frames
 //! under losses, with refused calls in between and sometimes damage.
 
+use reference::fair::{fades, promised, promised_in_a_fade};
 use reference::settings::{every_code, Settings};
 
-use super::fair::{losses, promised};
 use super::faults::faulty;
+use super::losses::{losses, one_fade};
 use super::rows::lanes;
 use crate::call::{Call, Kind};
 use crate::comparison::{Comparison, Difference};
 use crate::draw::Draws;
 use crate::model::{bytes_of, lengths, STATE};
 
-/// Lists for each code.
+/// Lists for each code; one more with a fade, where frames can be heard inside one.
 const EACH: usize = 4;
 
 pub fn run(comparison: &mut Comparison) -> Result<(), Difference> {
     for code in every_code() {
         for case in 0..EACH {
-            let mut draws = comparison.case("lists of calls");
-            let narrow = case % 2 == 0;
-            let window = if narrow { code.delay + 1 } else { super::window(&mut draws, &code) };
-            let lanes = if narrow { 1 } else { lanes(&mut draws, &code) };
-            let settings = Settings { window, lanes, ..code };
-            let slots = settings.t() + 2 + draws.below(2 * settings.t() + 12);
-            List::opened(comparison, &mut draws, settings)?.play(slots)?;
+            any_losses(comparison, code, case % 2 == 0)?;
+        }
+        if !fades(&code).is_empty() {
+            a_fade(comparison, code)?;
         }
     }
     Ok(())
+}
+
+/// Losses of any kind, and sometimes damage; narrow is the narrowest window and one lane.
+fn any_losses(
+    comparison: &mut Comparison,
+    code: Settings,
+    narrow: bool,
+) -> Result<(), Difference> {
+    let mut draws = comparison.case("lists of calls");
+    let window = if narrow { code.delay + 1 } else { super::window(&mut draws, &code) };
+    let lanes = if narrow { 1 } else { lanes(&mut draws, &code) };
+    let settings = Settings { window, lanes, ..code };
+    let slots = settings.t() + 2 + draws.below(2 * settings.t() + 12);
+    let lost = losses(&mut draws, &settings, slots);
+    let damage = draws.once_in(3);
+    List::opened(comparison, &mut draws, settings)?.play(&lost, damage)
+}
+
+/// One fade inside which frames are heard, and no damage: some message is promised surely.
+fn a_fade(comparison: &mut Comparison, code: Settings) -> Result<(), Difference> {
+    let mut draws = comparison.case("lists of calls");
+    let (window, lanes) = (super::window(&mut draws, &code), draws.one_of(&[1, 1, 2]));
+    let settings = Settings { window, lanes, ..code };
+    let lost = one_fade(&mut draws, &settings);
+    List::opened(comparison, &mut draws, settings)?.play(&lost, false)
 }
 
 /// The state and the rows of one end.
@@ -72,10 +95,9 @@ impl<'a> List<'a> {
         Ok(List { comparison, draws, settings, sender, receiver, messages, damaged })
     }
 
-    fn play(&mut self, slots: usize) -> Result<(), Difference> {
-        let lost = losses(self.draws, &self.settings, slots);
-        let damage = self.draws.once_in(3);
-        for slot in 0..slots {
+    /// A send and a report for each slot, lost or heard as the list says.
+    fn play(&mut self, lost: &[bool], damage: bool) -> Result<(), Difference> {
+        for slot in 0..lost.len() {
             let mut frame = self.send()?;
             if damage && self.draws.once_in(10) {
                 let place = 14 + self.draws.below(frame.len() - 14);
@@ -83,7 +105,7 @@ impl<'a> List<'a> {
                 self.damaged |= !lost[slot];
             }
             let (reply, message) = self.report(frame, lost[slot])?;
-            self.check_promise(&lost, slot, reply, &message)?;
+            self.check_promise(lost, slot, reply, &message)?;
         }
         Ok(())
     }
@@ -135,10 +157,11 @@ impl<'a> List<'a> {
         if self.damaged || !promised(&self.settings, lost, t) {
             return Ok(());
         }
-        self.comparison.met.fair += 1;
-        match reply == 17 && message == self.messages[t] {
-            true => Ok(()),
-            false => Err(self.comparison.failed(&format!("message {t} is not whole, as sent"))),
+        if reply != 17 || message != self.messages[t] {
+            return Err(self.comparison.failed(&format!("message {t} is not whole, as sent")));
         }
+        let in_a_fade = promised_in_a_fade(&self.settings, lost, t);
+        self.comparison.met.add_promised(&self.settings, in_a_fade);
+        Ok(())
     }
 }

@@ -1,10 +1,10 @@
 //! The cases, in parts; each part goes through its cases until the first difference.
 
 mod bounds;
-mod fair;
 mod faults;
 mod history;
 mod lists;
+mod losses;
 mod openings;
 mod refused;
 mod rows;

@@ -1,17 +1,19 @@
-//! Losses: patterns of several kinds, and which of them are fair (demand 3).
+//! Losses: patterns of several kinds. Which messages they promise, the reference says (demand 3).
 
+use reference::fair::fades;
 use reference::settings::Settings;
 
 use crate::draw::Draws;
 
 /// Which slots are lost, from slot 0 on.
 pub fn losses(draws: &mut Draws, settings: &Settings, slots: usize) -> Vec<bool> {
-    match draws.below(6) {
+    match draws.below(7) {
         0 => bursts(draws, settings, slots, usize::from(settings.burst)),
         1 => bursts(draws, settings, slots, usize::from(settings.burst) + 2),
         2 => scattered(draws, settings, slots),
         3 => (0..slots).map(|_| draws.once_in(5)).collect(),
         4 => (0..slots).map(|_| draws.once_in(2)).collect(),
+        5 => broken(draws, settings, slots),
         _ => vec![false; slots],
     }
 }
@@ -29,6 +31,13 @@ fn bursts(draws: &mut Draws, settings: &Settings, slots: usize, most: usize) -> 
     lost
 }
 
+/// Bursts of at most B slots, inside which a frame is heard now and then.
+fn broken(draws: &mut Draws, settings: &Settings, slots: usize) -> Vec<bool> {
+    let lost = bursts(draws, settings, slots, usize::from(settings.burst));
+    let inside = |slot: usize| slot > 0 && slot + 1 < slots && lost[slot - 1] && lost[slot + 1];
+    (0..slots).map(|slot| lost[slot] && !(inside(slot) && draws.once_in(3))).collect()
+}
+
 /// At most N losses among any W slots.
 fn scattered(draws: &mut Draws, settings: &Settings, slots: usize) -> Vec<bool> {
     let mut lost = vec![false; slots];
@@ -40,34 +49,30 @@ fn scattered(draws: &mut Draws, settings: &Settings, slots: usize) -> Vec<bool> 
     lost
 }
 
-/// Slots t − k + 1 to t + T, those before 0 heard, are such that demand 3 promises message t.
-pub fn promised(settings: &Settings, lost: &[bool], t: usize) -> bool {
-    let from = (t + 1).saturating_sub(settings.k());
-    let slots = &lost[from..=t + settings.t()];
-    let stretch = usize::from(settings.window).min(slots.len());
-    slots.windows(stretch).all(|stretch| few(settings, stretch))
-}
-
-/// At most N losses, or only one unbroken run of at most B.
-fn few(settings: &Settings, stretch: &[bool]) -> bool {
-    let count = stretch.iter().filter(|lost| **lost).count();
-    let run = stretch.iter().skip_while(|lost| !**lost).take_while(|lost| **lost).count();
-    count <= usize::from(settings.scattered)
-        || run == count && count <= usize::from(settings.burst)
+/// One fade inside which frames are heard, for a code that has such fades. The list goes on until
+/// the last message lost in it is due, so that some message is promised by the wider rule only.
+pub fn one_fade(draws: &mut Draws, settings: &Settings) -> Vec<bool> {
+    let fades = fades(settings);
+    let mut lost = vec![false; draws.below(settings.k())];
+    lost.extend(&fades[draws.below(fades.len())]);
+    lost.resize(lost.len() + settings.t(), false);
+    lost
 }
 
 #[cfg(test)]
 mod tests {
+    use reference::fair::promised_in_a_fade;
+    use reference::settings::every_code;
+
     use super::*;
 
     #[test]
-    fn what_is_promised_on_the_card() {
-        let settings = Settings::of_code(3, 2, 2);
-        let lost = |slots: &[usize]| (0..9).map(|slot| slots.contains(&slot)).collect::<Vec<_>>();
-        assert!(promised(&settings, &lost(&[0, 1]), 0));
-        assert!(promised(&settings, &lost(&[0, 3]), 0));
-        assert!(!promised(&settings, &lost(&[0, 1, 2]), 0));
-        assert!(!promised(&settings, &lost(&[1, 2, 4]), 1));
-        assert!(promised(&settings, &lost(&[1, 2, 7]), 3));
+    fn one_fade_is_fair_by_the_wider_rule_only() {
+        let mut draws = Draws::of_case(1, 1);
+        for code in every_code().iter().filter(|code| !fades(code).is_empty()) {
+            let lost = one_fade(&mut draws, code);
+            let mut due = 0..lost.len() - code.t();
+            assert!(due.any(|t| promised_in_a_fade(code, &lost, t)), "{code:?} {lost:?}");
+        }
     }
 }
