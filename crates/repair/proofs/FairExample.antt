@@ -1,4 +1,5 @@
 -- The window matters: losses that are fair in every stretch of W slots, and are not fair over all the slots at once.
+-- And so does the whole of a stretch: losses that follow each other closely, and are too far from the first to the last.
 use mathlib.Core.Bool.{Bool, not, _||_}
 use Prim.Native.Nat.{ℕ}
 use lib.Dec.{T, ltb, eqb}
@@ -22,5 +23,10 @@ fair-apart = fair-tested small apart 0 4 .0 tt
 
 -- though three losses that far apart would be too many for one stretch
 pub not-at-once : T (not (fairStretch small apart 0 5))
-unfolding count fairStretch losses distance firstLoss lastLoss small apart
+unfolding every count fairStretch losses distance firstLoss lastLoss small apart
 not-at-once = tt
+
+-- four losses in a row: each is next to the one before it, but the first and the last are more than B - 1 = 1 slot apart
+pub not-by-neighbours : T (not (fairStretch small (λ t. ltb t 4) 0 4))
+unfolding every count fairStretch losses distance firstLoss lastLoss small
+not-by-neighbours = tt

@@ -5,7 +5,7 @@ use mathlib.Core.Logic.{_⊎_, inl, inr, ⊎-elim, _↔_}
 use Prim.Native.Nat.{ℕ, zero, suc, _+_, _-_, _≤_, _<_}
 use native.Mathlib.Nat.{eq-or-lt-of-le, le-refl}
 use native.Mathlib.Omega.{arith}
-use lib.Dec.{T, leb, leb→le, le→leb}
+use lib.Dec.{T, T-not, leb, leb→le, le→leb}
 use Rattle.galois.proofs.Cases.{or-cases, or-left, or-right}
 use Rattle.code.specs.declared.settings.Settings.{Settings}
 use Rattle.repair.specs.Fair.{losses, firstLoss, lastLoss, distance, fairStretch}
@@ -29,10 +29,6 @@ le-chosen : (b : Bool) (p q y : ℕ) → (T b → y ≤ p) → (T (not b) → y 
 le-chosen true p q y first second = first tt
 le-chosen false p q y first second = second tt
 
-not-both : (b : Bool) → T b → T (not b) → ⊥
-not-both true t n = n
-not-both false t n = t
-
 module _ (lost : ℕ → Bool) where
   -- no loss comes before the first
   first-le : (a m y : ℕ) → LostIn lost a m y → firstLoss lost a m ≤ y
@@ -41,7 +37,7 @@ module _ (lost : ℕ → Bool) where
   first-le a (suc m) y l =
       chosen-le (lost a) a (firstLoss lost (suc a) m) y (λ t. l .0)
       (λ heard.
-      ⊎-elim (λ same. absurd (not-both (lost a) (subst⁻¹ (λ (z : ℕ). T (lost z)) same (l .2)) heard))
+      ⊎-elim (λ same. absurd (T-not (lost a) heard (subst⁻¹ (λ (z : ℕ). T (lost z)) same (l .2))))
       (λ after. first-le (suc a) m y (after, omega (arith, l .1), l .2)) (eq-or-lt-of-le (l .0)))
 
   -- and what comes before every loss, and not after the stretch, does not come after the first
@@ -59,7 +55,7 @@ module _ (lost : ℕ → Bool) where
   le-last a (suc m) y l =
       le-chosen (lost (a + m)) (a + m) (lastLoss lost a m) y (λ t. omega (arith, l .1))
       (λ heard.
-      ⊎-elim (λ same. absurd (not-both (lost (a + m)) (subst (λ (z : ℕ). T (lost z)) same (l .2)) heard))
+      ⊎-elim (λ same. absurd (T-not (lost (a + m)) heard (subst (λ (z : ℕ). T (lost z)) same (l .2))))
       (λ before. le-last a m y (l .0, before, l .2)) (eq-or-lt-of-le (omega (arith, l .1))))
 
   -- and what comes after every loss, and not before the stretch, does not come before the last
