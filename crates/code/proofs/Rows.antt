@@ -9,7 +9,7 @@ use lib.Dec.{ltb, lit<}
 use borrow.Author.Tests.{ltb-true, ltb-false}
 use Rattle.galois.specs.Narrow.{narrow, _⊞_, timesBits, _⊠_, narrowQuotient}
 use Rattle.galois.proofs.Xor.{plus-cancel}
-use Rattle.galois.proofs.Field.{zero-quotient, quotient-self}
+use Rattle.galois.proofs.Field.{quotient-below, quotient-times, zero-quotient, quotient-self}
 use Rattle.galois.proofs.NarrowField.{narrows, narrow-plus, above-left, above-right}
 use Rattle.code.specs.declared.settings.Settings.{Settings}
 use Rattle.code.specs.Settings.{delayOf, kOf}
@@ -77,12 +77,12 @@ point-le N i m = go (ltb m i) refl
 -- to divide is to multiply by 1 divided
 pub factor-once : (i j p : ℕ) → (j ⊞ p) ⊠ narrowQuotient 1 (i ⊞ p) ≡ factor i j p
 unfolding factor
-factor-once i j p = sym (narrows .quotient-times (j ⊞ p) (i ⊞ p) (plus-narrow j p) (plus-narrow i p))
+factor-once i j p = sym (quotient-times narrows (j ⊞ p) (i ⊞ p) (plus-narrow j p) (plus-narrow i p))
 
 -- it is narrow
 pub factor-narrow : (i j p : ℕ) → factor i j p < 16
 unfolding factor
-factor-narrow i j p = narrows .quotient-below (j ⊞ p) (i ⊞ p) (plus-narrow j p) (plus-narrow i p)
+factor-narrow i j p = quotient-below narrows (j ⊞ p) (i ⊞ p) (plus-narrow j p) (plus-narrow i p)
 
 -- 0 at its point
 factor-zero : (i j : ℕ) → factor i j j ≡ 0

@@ -5,12 +5,14 @@ use mathlib.Core.List.{List}
 use Prim.Native.Nat.{ℕ, _<_}
 use borrow.Author.Tests.{le-ltb}
 use lib.Dec.{eqb}
-use lib.ListN.{length, getD}
-use Rattle.galois.specs.Byte.{_⊕_, _⊗_, quotient, Reciprocals}
+use lib.ListN.{length, getD, replicate}
+use Rattle.galois.specs.Reciprocal.{none, element}
+use Rattle.galois.specs.Byte.{_⊕_, _⊗_, reciprocal, quotient}
 use Rattle.galois.specs.Table.{table}
 use Rattle.galois.proofs.ByIndex.{getD-table, is-table, table-equal}
-use Rattle.galois.proofs.ByteField.{bytes, entry-divides}
-use Rattle.galois.proofs.Field.{quotient-one}
+use Rattle.galois.proofs.ByteField.{bytes}
+use Rattle.galois.proofs.ByteProduct.{times-comm}
+use Rattle.galois.proofs.Field.{by-none, by-element, quotient-one}
 use Rattle.elimination.specs.Elimination.{Reduced, cell, scaledAt, pivotFrom, pivoted, columnStep}
 
 -- row q once row r is the pivot of position p
@@ -36,12 +38,17 @@ row-own m r p q e = rw e refl
 pub row-other : (m : List (List ℕ)) (r p q : ℕ) → eqb q r ≡ false → sweptRow m r p q ≡ clearedRow m r p q
 row-other m r p q e = rw e refl
 
--- a row by the entry of a byte in a table of reciprocals is the row divided by the byte
-pub row-divided : (t : List ℕ) → Reciprocals t → (row : List ℕ) (y : ℕ) → y < 256
-    → table 16 (λ j. getD t y 0 ⊗ getD row j 0) ≡ table 16 (λ j. quotient (getD row j 0) y)
-row-divided t divides row y h =
-    table-equal 16 (λ j. getD t y 0 ⊗ getD row j 0) (λ j. quotient (getD row j 0) y)
-    (λ j _. entry-divides t divides (getD row j 0) y h)
+-- a row by the reciprocal of a byte is the row divided by the byte
+pub row-divided : (row : List ℕ) (y r : ℕ) → reciprocal y ≡ element r
+    → table 16 (λ j. r ⊗ getD row j 0) ≡ table 16 (λ j. quotient (getD row j 0) y)
+row-divided row y r e =
+    table-equal 16 (λ j. r ⊗ getD row j 0) (λ j. quotient (getD row j 0) y)
+    (λ j _. times-comm r (getD row j 0) ∙ sym (by-element bytes (getD row j 0) y r e))
+
+-- and where there is none the row becomes zeros
+pub row-zeros : (row : List ℕ) (y : ℕ) → reciprocal y ≡ none → replicate 16 0 ≡ table 16 (λ j. quotient (getD row j 0) y)
+unfolding table
+row-zeros row y e = table-equal 16 (λ j. 0) (λ j. quotient (getD row j 0) y) (λ j _. sym (by-none bytes (getD row j 0) y e))
 
 -- a row of bytes divided by 1 stays as it is
 pub row-by-one : (row : List ℕ) (y : ℕ) → length row ≡ 16 → ((j : ℕ) → getD row j 0 < 256) → y ≡ 1

@@ -1,4 +1,6 @@
 // One position of an elimination: its pivot is looked for, scaled to 1, and cleared from the other rows.
+use gf256::Gf256;
+use gf256::Reciprocal;
 use multiples::quarters;
 use multiples::row_by;
 use multiples::row_times;
@@ -27,7 +29,7 @@ fn pivot_row(rows: &[[u8; 16]], roles: &[u8; 16], p: usize, k: usize) -> usize
     16
 }
 
-// A row scaled to 1 at position p; one that is 1 there stays as it is.
+// A row divided by its entry at position p; one that is 1 there stays as it is, and one that is 0 there becomes zeros.
 fn scaled(row: [u8; 16], p: usize, reciprocals: &[u8; 256]) -> [u8; 16]
     requires { ⌜ (p < 16) × Reciprocals (now reciprocals) ⌝ }
     ensures { λ r. ⌜ r ≡ table 16 (λ j. quotient (getD row j 0) (getD row p 0)) ⌝ }
@@ -35,7 +37,10 @@ fn scaled(row: [u8; 16], p: usize, reciprocals: &[u8; 256]) -> [u8; 16]
     if row[p] == 1 {
         return row;
     }
-    row_times(row, reciprocals[row[p] as usize])
+    match Gf256(row[p]).reciprocal_in(reciprocals) {
+        Reciprocal::None => [0; 16],
+        Reciprocal::Element(inverse) => row_times(row, inverse.0),
+    }
 }
 
 // Row r is scaled to 1 at position p, which is cleared from every other of the first k rows.

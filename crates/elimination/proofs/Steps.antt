@@ -11,7 +11,8 @@ use borrow.Author.Tests.{eq-eqb, ne-eqb, eqb-true, eqb-false, lt-ltb}
 use Rattle.galois.specs.Byte.{_⊕_, _⊗_, quotient}
 use Rattle.galois.proofs.Xor.{plus-below, plus-self, plus-zero}
 use Rattle.galois.proofs.ByteProduct.{times-below, times-comm, times-zero, one-times}
-use Rattle.galois.proofs.ByteField.{quotient-times, times-quotient}
+use Rattle.galois.proofs.ByteField.{bytes, quotient-times}
+use Rattle.galois.proofs.Field.{times-quotient}
 use Rattle.galois.specs.Table.{table}
 use Rattle.galois.proofs.ByIndex.{getD-table}
 use Rattle.elimination.specs.Elimination.{cell, scaledAt, cleared}
@@ -85,7 +86,7 @@ module _ (k : ℕ) (hk : k ≤ 16) where
   pub cleared-one : (m : List (List ℕ)) (r p : ℕ) → r < k → p < 16 → cell m r p < 256 → cell m r p ≢ 0
       → cell (cleared k m r p) r p ≡ 1
   cleared-one m r p hr hp hb ne =
-      cleared-pivot m r p p hr hp ∙ times-comm (quotient 1 (cell m r p)) (cell m r p) ∙ times-quotient (cell m r p) hb ne
+      cleared-pivot m r p p hr hp ∙ times-comm (quotient 1 (cell m r p)) (cell m r p) ∙ times-quotient bytes (cell m r p) hb ne
 
   -- and every other row is 0
   pub cleared-zero : (m : List (List ℕ)) (r p q : ℕ) → r < k → q < k → p < 16 → cell m r p < 256 → cell m r p ≢ 0
@@ -99,9 +100,9 @@ module _ (k : ℕ) (hk : k ≤ 16) where
   -- the words stay
   pub cleared-spans : (m : List (List ℕ)) (r p : ℕ) → r < k → p < 16 → cell m r p ≢ 0
       → ((q j : ℕ) → q < k → j < 16 → cell m q j < 256) → Spans k 16 (cell (cleared k m r p)) (cell m)
-  cleared-spans m r p hr hp nz bytes =
+  cleared-spans m r p hr hp nz below =
       spans-step k 16 (cell (cleared k m r p)) (cell m) r (quotient 1 (cell m r p)) (cell m r p) (λ q. cell m q p) hr
-      (times-quotient (cell m r p) (bytes r p hr hp) nz) bytes
-      (λ q j hq hj. cleared-below m r p q j hr hq hj (bytes q j hq hj))
+      (times-quotient bytes (cell m r p) (below r p hr hp) nz) below
+      (λ q j hq hj. cleared-below m r p q j hr hq hj (below q j hq hj))
       (λ j hj. cleared-pivot m r p j hr hj)
       (λ q j hq ne hj. cleared-other m r p q j hr hq hj ne)

@@ -2,6 +2,7 @@
 use mathlib.Core.List.{List, [], _∷_, map, _++_}
 use Prim.Native.Nat.{ℕ, zero, suc, _+_}
 use lib.ListN.{getD, length, take, drop, replicate}
+use Rattle.galois.specs.Reciprocal.{numbered}
 use Rattle.galois.specs.Narrow.{_⊠_}
 use Rattle.galois.specs.Byte.{_⊗_, reciprocal}
 use Rattle.code.specs.declared.settings.Settings.{Settings}
@@ -128,7 +129,7 @@ figures =
     record { number = 1; given = numbers (2 ⊠ 9 ∷ []); card = numbers (1 ∷ []) }
     ∷ record { number = 2; given = numbers (16 ⊗ 16 ∷ []); card = numbers (24 ∷ []) }
     ∷ record { number = 3; given = numbers (16 ⊗ 24 ∷ []); card = numbers (152 ∷ []) }
-    ∷ record { number = 4; given = numbers (reciprocal 16 ∷ []); card = numbers (255 ∷ []) }
+    ∷ record { number = 4; given = numbers (numbered (reciprocal 16) .1); card = numbers (255 ∷ []) }
     ∷ record {
       number = 5;
       given = numbers (rowOf (setTo 3 2 2) 4 0 ++ rowOf (setTo 3 2 2) 4 1);

@@ -4,6 +4,7 @@ pub mod Cases
 pub mod Xor
 pub mod Field
 pub mod NarrowField
+pub mod Tables
 pub mod ByteProduct
 pub mod ByteField
 pub mod Extension

@@ -1,18 +1,19 @@
 -- The narrow numbers are a field. The product is additive, so that its laws are computed at powers of two.
 use mathlib.Core.Path.{_≡_, refl, sym, ap, ap₂, _∙_, subst⁻¹}
-use mathlib.Core.Bool.{cond, not, and-false}
+use mathlib.Core.Bool.{Bool, cond, not, and-false, _&&_}
 use mathlib.Core.Logic.{_≢_}
 use Prim.Native.Nat.{ℕ, zero, suc, _*_, _/_, _%_, _^_, _<_}
-use native.Mathlib.Nat.{mod-lt, zero-lt-suc}
+use native.Mathlib.Nat.{mod-lt, zero-lt-suc, le-of-suc-le-suc, not-suc-le-zero}
 use native.Mathlib.Omega.{arith}
 use lib.Bits.{bitXor, xor-shr, xor-mod}
-use lib.Dec.{T, T-not, eqb, ltb, ltb→lt, lit<}
-use lib.ListN.{List·getD-eq-default}
+use lib.Dec.{T, T-not, eqb, eqb→eq, ltb, ltb→lt, lit<}
+use lib.ListN.{getD}
 use borrow.Author.Tests.{lt-ltb, le-ltb}
 use Rattle.galois.specs.Bounded.{every}
 use Rattle.galois.specs.Byte.{_⊕_, eight}
+use Rattle.galois.specs.Reciprocal.{none, element}
 use Rattle.galois.specs.Narrow.{narrow, _⊞_, timesZ, timesBits, _⊠_, narrowReciprocals, narrowReciprocal, narrowQuotient}
-use Rattle.galois.proofs.Cases.{at, equal, equal₂, equal-but-zero}
+use Rattle.galois.proofs.Cases.{at, and-left, and-right, equal, equal₂}
 use Rattle.galois.proofs.Field.{Field}
 use Rattle.galois.proofs.Xor.{plus-below, plus-comm, plus-assoc, plus-self, zero-plus, plus-zero, plus-exchange, Additive, additive-after, additive-equal}
 
@@ -35,9 +36,10 @@ pub both-narrow : (a b r : ℕ) → a < 16 → b < 16 → narrow a b r ≡ r
 unfolding narrow
 both-narrow a b r ha hb = rw (lt-ltb a 16 ha, lt-ltb b 16 hb)
 
-pub reciprocal-above : (a : ℕ) → 15 < a → narrowReciprocal a ≡ 0
-unfolding narrowReciprocal narrowReciprocals
-reciprocal-above a h = List·getD-eq-default narrowReciprocals 0 h
+pub reciprocal-above : (a : ℕ) → 15 < a → narrowReciprocal a ≡ none
+unfolding narrowReciprocal
+reciprocal-above zero h = absurd (not-suc-le-zero h)
+reciprocal-above (suc a) h = rw (le-ltb (suc a) 16 h)
 
 -- ---- the sum
 
@@ -142,18 +144,23 @@ product-distributes a b c ha hb hc =
     ∙ sym (ap₂ _⊕_ (times-raw a b ha hb) (times-raw a c ha hc))
     ∙ sym (narrow-plus (a ⊠ b) (a ⊠ c) (product-below a b ha hb) (product-below a c ha hc))
 
--- ---- the quotient
+-- ---- the reciprocal
 
-product-one : (a : ℕ) → a < 16 → 1 ⊠ a ≡ a
-unfolding every _⊠_ narrow timesBits timesZ
-product-one = equal 16 (λ a. 1 ⊠ a) (λ a. a) tt
+-- every number but 0 has one
+listed : (a : ℕ) → a < 16 → a ≢ 0 → (b : ℕ) × (narrowReciprocal a ≡ element b) × (b < 16) × (a ⊠ b ≡ 1)
+unfolding every _⊠_ narrow timesBits timesZ narrowReciprocal narrowReciprocals
+listed zero h ne = absurd (ne refl)
+listed (suc a) h ne =
+    let b : ℕ = getD narrowReciprocals a 0 in
+    let good = at 15 (λ a. ltb (getD narrowReciprocals a 0) 16 && eqb (suc a ⊠ getD narrowReciprocals a 0) 1) tt a (le-of-suc-le-suc h) in (
+      b,
+      ap (λ (t : Bool). cond t (element b) none) (lt-ltb (suc a) 16 h),
+      ltb→lt b 16 (and-left (ltb b 16) (eqb (suc a ⊠ b) 1) good),
+      eqb→eq (suc a ⊠ b) 1 (and-right (ltb b 16) (eqb (suc a ⊠ b) 1) good),
+    )
 
-reciprocal-below : (a : ℕ) → a < 16 → narrowReciprocal a < 16
-unfolding every narrowReciprocal narrowReciprocals
-reciprocal-below a ha = ltb→lt (narrowReciprocal a) 16 (at 16 (λ a. ltb (narrowReciprocal a) 16) tt a ha)
-
-pub narrows : Field 16 _⊞_ _⊠_ narrowQuotient
-unfolding every _⊠_ narrow timesBits timesZ narrowQuotient narrowReciprocal narrowReciprocals
+pub narrows : Field 16 _⊞_ _⊠_ narrowReciprocal narrowQuotient
+unfolding every _⊠_ narrow timesBits timesZ narrowReciprocal narrowQuotient
 narrows = record {
   one-below = lit< tt;
   plus-below = sum-below;
@@ -165,11 +172,11 @@ narrows = record {
   times-comm = λ a b ha hb. times-raw a b ha hb ∙ raw-comm a b ha hb ∙ sym (times-raw b a hb ha);
   times-assoc = product-assoc;
   zero-times = equal 16 (λ a. 0 ⊠ a) (λ a. 0) tt;
-  one-times = product-one;
+  one-times = equal 16 (λ a. 1 ⊠ a) (λ a. a) tt;
   distributes = product-distributes;
-  quotient-below = λ a b ha hb. product-below a (narrowReciprocal b) ha (reciprocal-below b hb);
-  quotient-times = λ a b ha hb. ap (λ (c : ℕ). a ⊠ c) (sym (product-one (narrowReciprocal b) (reciprocal-below b hb)));
-  times-quotient = equal-but-zero 15 (λ a. a ⊠ narrowQuotient 1 a) (λ a. 1) tt;
+  none-of-zero = refl;
+  has-reciprocal = listed;
+  divides = λ a b. refl;
 }
 
 -- x × x + x + 8 is never 0

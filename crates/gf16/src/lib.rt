@@ -2,13 +2,23 @@
 ghost use mathlib.Core.Path.{_≡_};
 ghost use Prim.Native.Nat.{_*_, _/_, _%_, _<_};
 ghost use lib.Bits.{bitXor};
+ghost use Rattle.galois.specs.Reciprocal.{Listed};
 ghost use Rattle.galois.specs.Narrow.{_⊞_, _⊠_, narrowReciprocal, narrowQuotient};
+ghost use Rattle.gf16.specs.Answer.{answered};
 
-// The reciprocal of each narrow number.
+// The reciprocals of the narrow numbers, from 1 on.
 const NARROW_RECIPROCALS: [u8; 16] = [0, 1, 9, 14, 13, 11, 7, 6, 15, 2, 12, 5, 10, 4, 3, 8];
 
-// A narrow number. An operation that is handed a number above 15 gives 0.
+// A narrow number. An operation that is handed a number above 15 gives 0; such a number has no reciprocal.
 pub struct Gf16(pub u8);
+
+// The reciprocal of a narrow number.
+pub enum Reciprocal {
+    // Of 0, and of a number above 15.
+    None,
+    // Of any other.
+    Element(Gf16),
+}
 
 impl Gf16 {
     // The 8 of α × α = α + 8.
@@ -56,21 +66,35 @@ impl Gf16 {
         Gf16(replaced(sum))
     }
 
-    pub fn reciprocal(self) -> Gf16
-        ensures { λ r. ⌜ r .0 ≡ narrowReciprocal (self .0) ⌝ }
+    pub fn reciprocal(self) -> Reciprocal
+        ensures { λ r. ⌜ answered r ≡ narrowReciprocal (self .0) ⌝ }
     {
-        let a = self.0;
-        if 15 < a {
-            return Gf16(0);
+        let number = self.0;
+        if number == 0 {
+            return Reciprocal::None;
         }
-        Gf16(NARROW_RECIPROCALS[a as usize])
+        if 15 < number {
+            return Reciprocal::None;
+        }
+        let table = reciprocals();
+        Reciprocal::Element(Gf16(table[number as usize]))
     }
 
     pub fn quotient(self, other: Gf16) -> Gf16
         ensures { λ r. ⌜ r .0 ≡ narrowQuotient (self .0) (other .0) ⌝ }
     {
-        self.product(other.reciprocal())
+        match other.reciprocal() {
+            Reciprocal::None => Gf16(0),
+            Reciprocal::Element(inverse) => self.product(inverse),
+        }
     }
+}
+
+// The reciprocals of 1 to 15, each at its number; of entry 0 nothing is promised, and it is not read.
+fn reciprocals() -> [u8; 16]
+    ensures { λ r. ⌜ Listed 16 narrowReciprocal r ⌝ }
+{
+    NARROW_RECIPROCALS
 }
 
 // The number where the other is odd, else 0.

@@ -5,9 +5,18 @@ use gf16::Gf16;
 use tables::RECIPROCALS;
 ghost use mathlib.Core.Path.{_≡_};
 ghost use Rattle.galois.specs.Byte.{_⊕_, _⊗_, alpha, reciprocal, quotient, Reciprocals, high, low, byte, widen};
+ghost use Rattle.gf256.specs.Answer.{answered};
 
 // A byte.
 pub struct Gf256(pub u8);
+
+// The reciprocal of a byte.
+pub enum Reciprocal {
+    // Of 0.
+    None,
+    // Of any other.
+    Element(Gf256),
+}
 
 impl Gf256 {
     pub const ALPHA: Gf256 = Gf256(16);
@@ -46,17 +55,32 @@ impl Gf256 {
         Gf256::ALPHA.product(self)
     }
 
-    pub fn reciprocal(self) -> Gf256
-        ensures { λ r. ⌜ r .0 ≡ reciprocal (self .0) ⌝ }
+    pub fn reciprocal(self) -> Reciprocal
+        ensures { λ r. ⌜ answered r ≡ reciprocal (self .0) ⌝ }
     {
         let table = reciprocals();
-        Gf256(table[self.0 as usize])
+        self.reciprocal_in(&table)
+    }
+
+    // The same by a lent table, which is not looked up for 0.
+    pub fn reciprocal_in(self, table: &[u8; 256]) -> Reciprocal
+        requires { ⌜ Reciprocals (now table) ⌝ }
+        ensures { λ r. ⌜ answered r ≡ reciprocal (self .0) ⌝ }
+    {
+        let x = self.0;
+        if x == 0 {
+            return Reciprocal::None;
+        }
+        Reciprocal::Element(Gf256(table[x as usize]))
     }
 
     pub fn quotient(self, other: Gf256) -> Gf256
         ensures { λ r. ⌜ r .0 ≡ quotient (self .0) (other .0) ⌝ }
     {
-        self.product(other.reciprocal())
+        match other.reciprocal() {
+            Reciprocal::None => Gf256(0),
+            Reciprocal::Element(inverse) => self.product(inverse),
+        }
     }
 
     // The byte that is a narrow number.
@@ -90,7 +114,7 @@ impl Gf256 {
     }
 }
 
-// The reciprocal of every byte.
+// The reciprocals of 1 to 255, each at its byte; of entry 0 nothing is promised, and it is not read.
 pub fn reciprocals() -> [u8; 256]
     ensures { λ r. ⌜ Reciprocals r ⌝ }
 {

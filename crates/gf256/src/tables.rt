@@ -1,4 +1,4 @@
-// The reciprocal of each byte.
+// The reciprocals of the bytes, from 1 on.
 pub const RECIPROCALS: [u8; 256] = [
     0,
     1,

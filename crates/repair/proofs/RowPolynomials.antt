@@ -11,6 +11,7 @@ use Rattle.galois.specs.Narrow.{_⊞_, narrowQuotient}
 use Rattle.galois.specs.Byte.{Bytes, _⊕_, _⊗_, widen}
 use Rattle.galois.proofs.Xor.{plus-zero, zero-plus}
 use Rattle.galois.proofs.ByteProduct.{times-comm, times-assoc, times-zero}
+use Rattle.galois.proofs.Field.{quotient-below}
 use Rattle.galois.proofs.NarrowField.{narrows, narrow-plus}
 use Rattle.galois.proofs.Extension.{widen-narrow, widen-times}
 use Rattle.code.specs.declared.settings.Settings.{Settings}
@@ -47,7 +48,7 @@ bytes-coefficients N i (suc m) = bytes-scale _ (linear (point N i m) 0 (coeffici
 widen-factor : (i j p : ℕ) → i < 16 → j < 16 → p < 16 → widen (factor i j p) ≡ (j ⊕ p) ⊗ narrowQuotient 1 (i ⊞ p)
 widen-factor i j p hi hj hp =
     let jp : j ⊞ p < 16 = narrows .plus-below j p hj hp in
-    let by : narrowQuotient 1 (i ⊞ p) < 16 = narrows .quotient-below 1 (i ⊞ p) (lit< tt) (narrows .plus-below i p hi hp) in
+    let by : narrowQuotient 1 (i ⊞ p) < 16 = quotient-below narrows 1 (i ⊞ p) (lit< tt) (narrows .plus-below i p hi hp) in
     ap widen (sym (factor-once i j p)) ∙ widen-times (j ⊞ p) (narrowQuotient 1 (i ⊞ p)) jp by
     ∙ ap₂ _⊗_ (widen-narrow (j ⊞ p) jp ∙ narrow-plus j p hj hp) (widen-narrow (narrowQuotient 1 (i ⊞ p)) by)
 

@@ -1,0 +1,2 @@
+-- To be believed: what an answer of the code is.
+pub mod Answer
