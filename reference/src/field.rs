@@ -36,13 +36,14 @@ impl Narrow {
         Narrow(remainder(polynomial_product(self.0, other.0)))
     }
 
-    /// The number whose product with this one is 1; there is none for 0, which gives 0.
-    pub fn reciprocal(self) -> Narrow {
-        Narrow::all().find(|&other| self.times(other) == Narrow::ONE).unwrap_or(Narrow::ZERO)
+    /// The number whose product with this one is 1; 0 has none, and a number above 15 has none.
+    pub fn reciprocal(self) -> Option<Narrow> {
+        Narrow::all().find(|&other| self.times(other) == Narrow::ONE)
     }
 
+    /// 0 where the divisor has no reciprocal.
     pub fn divided_by(self, other: Narrow) -> Narrow {
-        self.times(other.reciprocal())
+        other.reciprocal().map_or(Narrow::ZERO, |reciprocal| self.times(reciprocal))
     }
 
     /// The only way from a narrow number to a byte; one above 15 gives 0.
@@ -97,9 +98,14 @@ impl Byte {
         Byte(16 * high.0 + low.0)
     }
 
-    /// The byte whose product with this one is 1; there is none for 0, which gives 0.
-    pub fn reciprocal(self) -> Byte {
-        Byte::all().find(|&other| self.times(other) == Byte::ONE).unwrap_or(Byte::ZERO)
+    /// The byte whose product with this one is 1; 0 has none.
+    pub fn reciprocal(self) -> Option<Byte> {
+        Byte::all().find(|&other| self.times(other) == Byte::ONE)
+    }
+
+    /// 0 where the divisor has no reciprocal.
+    pub fn divided_by(self, other: Byte) -> Byte {
+        other.reciprocal().map_or(Byte::ZERO, |reciprocal| self.times(reciprocal))
     }
 }
 
@@ -109,24 +115,59 @@ mod tests {
 
     #[test]
     fn narrow_reciprocals_are_the_documents_table() {
-        let table = [0, 1, 9, 14, 13, 11, 7, 6, 15, 2, 12, 5, 10, 4, 3, 8].map(Narrow);
-        assert!(Narrow::all().map(Narrow::reciprocal).eq(table));
+        let table = [1, 9, 14, 13, 11, 7, 6, 15, 2, 12, 5, 10, 4, 3, 8].map(|r| Some(Narrow(r)));
+        assert!((1..=15).map(|a| Narrow(a).reciprocal()).eq(table));
+    }
+
+    /// 0, and what lies outside the narrow numbers.
+    fn narrows_without_reciprocal() -> impl Iterator<Item = Narrow> {
+        (0..=0).chain(16..=255).map(Narrow)
     }
 
     #[test]
-    fn a_number_times_its_reciprocal_is_one_in_both_fields() {
-        assert_eq!((Narrow::ZERO.reciprocal(), Byte::ZERO.reciprocal()), (Narrow(0), Byte(0)));
-        assert!(Narrow::all().skip(1).all(|a| a.times(a.reciprocal()) == Narrow::ONE));
-        assert!(Byte::all().skip(1).all(|a| a.times(a.reciprocal()) == Byte::ONE));
+    fn zero_and_narrows_above_fifteen_have_no_reciprocal() {
+        assert_eq!(Byte::ZERO.reciprocal(), None);
+        for a in narrows_without_reciprocal() {
+            assert_eq!(a.reciprocal(), None, "{a:?}");
+        }
+    }
+
+    #[test]
+    fn the_reciprocal_of_a_byte_is_the_only_one_whose_product_with_it_is_one() {
+        for a in (1..=255).map(Byte) {
+            let reciprocal = a.reciprocal().expect("every byte but 0 has one");
+            assert!(Byte::all().all(|b| (b == reciprocal) == (a.times(b) == Byte::ONE)), "{a:?}");
+        }
+    }
+
+    #[test]
+    fn a_quotient_by_a_number_without_reciprocal_is_zero() {
+        for a in 0..=255 {
+            assert_eq!(Byte(a).divided_by(Byte::ZERO), Byte::ZERO, "{a}");
+            for b in narrows_without_reciprocal() {
+                assert_eq!(Narrow(a).divided_by(b), Narrow::ZERO, "{a} {b:?}");
+            }
+        }
+    }
+
+    #[test]
+    fn a_quotient_times_its_divisor_is_the_number_divided() {
+        for b in (1..=15).map(Narrow) {
+            assert!(Narrow::all().all(|a| a.divided_by(b).times(b) == a), "{b:?}");
+        }
+        for b in (1..=255).map(Byte) {
+            assert!(Byte::all().all(|a| a.divided_by(b).times(b) == a), "{b:?}");
+        }
     }
 
     #[test]
     fn narrow_operations_above_fifteen_give_zero() {
         for outside in (16..=255).map(Narrow) {
-            assert_eq!((outside.reciprocal(), outside.widen()), (Narrow::ZERO, Byte::ZERO));
+            assert_eq!(outside.widen(), Byte::ZERO);
             for a in Narrow::all() {
                 assert_eq!([a.plus(outside), outside.plus(a)], [Narrow::ZERO; 2]);
                 assert_eq!([a.times(outside), outside.times(a)], [Narrow::ZERO; 2]);
+                assert_eq!(outside.divided_by(a), Narrow::ZERO);
             }
         }
     }

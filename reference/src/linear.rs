@@ -72,7 +72,7 @@ impl System {
         let left = self.reduced(equation);
         match left.lead() {
             Some(lead) => {
-                let factor = left.coefficients[lead].reciprocal();
+                let factor = Byte::ONE.divided_by(left.coefficients[lead]);
                 self.held.push((lead, left.scaled(factor)));
             }
             // Nothing equals a value: it follows from the held ones only if the value is 0.

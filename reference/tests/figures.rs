@@ -19,7 +19,7 @@ fn figures_1_to_4_the_fields() {
     assert_eq!(Narrow(2).times(Narrow(9)), Narrow(1));
     assert_eq!(Byte(16).times(Byte(16)), Byte(24));
     assert_eq!(Byte(16).times(Byte(24)), Byte(152));
-    assert_eq!(Byte(16).reciprocal(), Byte(255));
+    assert_eq!(Byte(16).reciprocal(), Some(Byte(255)));
 }
 
 #[test]
