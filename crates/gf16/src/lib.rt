@@ -6,7 +6,7 @@ ghost use Rattle.galois.specs.Reciprocal.{Listed};
 ghost use Rattle.galois.specs.Narrow.{_⊞_, _⊠_, narrowReciprocal, narrowQuotient};
 ghost use Rattle.gf16.specs.Answer.{answered};
 
-// The reciprocals of the narrow numbers, from 1 on.
+// The reciprocals of the narrow numbers, each at its number. 0 has none: its entry is never read.
 const NARROW_RECIPROCALS: [u8; 16] = [0, 1, 9, 14, 13, 11, 7, 6, 15, 2, 12, 5, 10, 4, 3, 8];
 
 // A narrow number. An operation that is handed a number above 15 gives 0; such a number has no reciprocal.
@@ -90,7 +90,7 @@ impl Gf16 {
     }
 }
 
-// The reciprocals of 1 to 15, each at its number; of entry 0 nothing is promised, and it is not read.
+// The table of reciprocals, of which nothing is promised at entry 0.
 fn reciprocals() -> [u8; 16]
     ensures { λ r. ⌜ Listed 16 narrowReciprocal r ⌝ }
 {

@@ -62,7 +62,7 @@ impl Gf256 {
         self.reciprocal_in(&table)
     }
 
-    // The same by a lent table, which is not looked up for 0.
+    // The same by a lent table, which is looked up for 1 to 255 only.
     pub fn reciprocal_in(self, table: &[u8; 256]) -> Reciprocal
         requires { ⌜ Reciprocals (now table) ⌝ }
         ensures { λ r. ⌜ answered r ≡ reciprocal (self .0) ⌝ }
@@ -114,7 +114,7 @@ impl Gf256 {
     }
 }
 
-// The reciprocals of 1 to 255, each at its byte; of entry 0 nothing is promised, and it is not read.
+// The table of reciprocals, of which nothing is promised at entry 0.
 pub fn reciprocals() -> [u8; 256]
     ensures { λ r. ⌜ Reciprocals r ⌝ }
 {

@@ -1,4 +1,4 @@
-// The reciprocals of the bytes, from 1 on.
+// The reciprocals of the bytes, each at its byte. 0 has none: its entry is never read.
 pub const RECIPROCALS: [u8; 256] = [
     0,
     1,
