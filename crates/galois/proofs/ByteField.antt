@@ -19,17 +19,17 @@ use Rattle.galois.proofs.Xor.{plus-below, plus-comm, plus-assoc, plus-s
 
 -- ---- the search
 
--- of what a search answers, an element is below b and passes the test
+-- what a search answers is none, or a number below b that passes the test
 Passes : (ℕ → Bool) → ℕ → Reciprocal → Type 0
 Passes f b none = Unit {0}
 Passes f b (element y) = (y < b) × T (f y)
 
--- it answers one
+-- and it is not none
 Some : Reciprocal → Type 0
 Some none = ⊥
 Some (element y) = Unit {0}
 
--- one step of a search
+-- one step of a search keeps either
 step-passes : (f : ℕ → Bool) (b a : ℕ) (r : Reciprocal) (t : Bool) → f a ≡ t → a < b → Passes f b r
     → Passes f b (elim t [ true ↦ element a | false ↦ r ])
 unfolding Passes
@@ -41,14 +41,14 @@ unfolding Some
 step-some a r true rest = tt
 step-some a r false rest = rest refl
 
--- all of it
+-- so the whole of it answers none, or a number that passes
 first-passes : (f : ℕ → Bool) (b a m : ℕ) → a + m ≤ b → Passes f b (first f a m)
 unfolding first Passes
 first-passes f b a zero h = tt
 first-passes f b a (suc m) h =
     step-passes f b a (first f (suc a) m) (f a) refl (omega arith) (first-passes f b (suc a) m (omega arith))
 
--- if a number in its range passes the test, it answers one
+-- and not none, if a number in its range passes
 first-some : (f : ℕ → Bool) (a m z : ℕ) → a ≤ z → z < a + m → T (f z) → Some (first f a m)
 unfolding first
 first-some f a zero z low high t = absurd (not-le-of-lt (subst (λ (e : ℕ). z < e) (add-zero a) high) low)
@@ -58,7 +58,7 @@ first-some f a (suc m) z low high t =
     (⊎-elim (λ same. absurd (subst T (ap f (sym same) ∙ no) t)) (λ past. past) (eq-or-lt-of-le low))
     (omega arith) t)
 
--- a reciprocal is a byte that brings x to 1
+-- the reciprocal of x is none, or a byte that brings x to 1
 reciprocal-passes : (x : ℕ) → Passes (λ y. eqb (x ⊗ y) 1) 256 (reciprocal x)
 unfolding reciprocal
 reciprocal-passes x = first-passes (λ y. eqb (x ⊗ y) 1) 256 0 256 (lit≤ tt)
