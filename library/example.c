@@ -1,5 +1,6 @@
-/* Both ends of a link in one program: numbered messages, a loss pattern, and what the receiver says of each slot.
- * Returns 1 if a message under fair losses does not come out whole, as it was sent. */
+/* Both ends of a link in one program: numbered messages, a loss pattern, and what the receiver says of each slot, beside
+ * a second one that is switched on in the middle. Returns 1 if a message under fair losses does not come out whole, as
+ * it was sent. */
 #include <stdbool.h>
 #include <stdio.h>
 #include <stdlib.h>
@@ -12,7 +13,8 @@
 enum { WINDOW = 9, DELAY = 5, BURST = 4, SCATTERED = 2, LANES = 2 };
 static const uint8_t settings[TOB_SETTINGS_LEN] = {WINDOW, DELAY, BURST, SCATTERED, LANES};
 
-enum { SLOTS = 56, SOURCES = DELAY - SCATTERED + 1 };
+/* The second receiver is switched on at slot 30, and its lines are printed up to slot 36. */
+enum { SLOTS = 56, SOURCES = DELAY - SCATTERED + 1, SWITCHED_ON = 30, SHOWN = 36 };
 
 /* The slots that are lost: 3 of a fade of 4, in which slot 12 is heard, then 2 scattered losses, and last a burst of
  * 6, which is not fair. */
@@ -22,12 +24,13 @@ static bool is_lost(int slot)
     return fade || slot == 24 || slot == 28 || (38 <= slot && slot <= 43);
 }
 
-/* Whether the slots that carry message t, and what repairs it, have fair losses. They are WINDOW slots here. */
-static bool is_fair(int t)
+/* Whether the slots that carry message t, and what repairs it, have fair losses for a receiver opened at this slot: the
+ * slots before it, from 0 on, are losses. They are WINDOW slots here. */
+static bool is_fair(int t, int opening)
 {
     int losses = 0, first = 0, last = 0;
     for (int slot = t - SOURCES + 1; slot <= t + DELAY; slot++) {
-        if (is_lost(slot)) {
+        if ((0 <= slot && slot < opening) || is_lost(slot)) {
             first = losses == 0 ? slot : first;
             last = slot;
             losses++;
@@ -51,52 +54,83 @@ static uint8_t *lend(size_t len)
     return bytes;
 }
 
+/* A receiver: the slot that it was opened at, its state, and its rows. */
+struct receiver {
+    int opening;
+    uint8_t state[TOB_STATE_LEN], *rows;
+};
+
+/* Opens it. */
+static bool switch_on(struct receiver *r, int slot)
+{
+    r->opening = slot;
+    r->rows = lend(tob_receiver_len(settings));
+    return tob_open_receiver_at(settings, (uint32_t)slot, r->state, sizeof r->state, r->rows,
+                                tob_receiver_len(settings)) == TOB_ACCEPTED;
+}
+
+/* Reports the slot's frame, or that it was lost, and prints the reply. False if a message that is promised is not there. */
+static bool report(struct receiver *r, int slot, const uint8_t *frame, bool shown)
+{
+    size_t rows_len = tob_receiver_len(settings), message_len = tob_message_len(settings);
+    uint8_t *out = lend(message_len), *message = lend(message_len);
+    int t = slot - DELAY;
+    uint32_t reply =
+        is_lost(slot)
+            ? tob_lost(r->state, sizeof r->state, r->rows, rows_len, out, message_len)
+            : tob_heard(r->state, sizeof r->state, r->rows, rows_len, frame, tob_frame_len(settings), out, message_len);
+
+    if (shown && reply == TOB_NONE_YET)
+        printf("none yet\n");
+    else if (shown && reply == TOB_WHOLE)
+        printf("%d whole %02x%02x%02x%02x\n", t, out[0], out[1], out[2], out[3]);
+    else if (shown)
+        printf("%d %s\n", t, reply == TOB_LOST ? "lost" : reply == TOB_CLASH ? "clash" : "refused");
+
+    fill(message, message_len, t);
+    bool good = t < 0 || !is_fair(t, r->opening) || (reply == TOB_WHOLE && memcmp(out, message, message_len) == 0);
+    free(out), free(message);
+    return good;
+}
+
 int main(void)
 {
     size_t message_len = tob_message_len(settings), frame_len = tob_frame_len(settings);
     size_t sender_len = tob_sender_len(settings), receiver_len = tob_receiver_len(settings);
-    uint8_t sender[TOB_STATE_LEN], receiver[TOB_STATE_LEN];
-    uint8_t *sender_rows = lend(sender_len), *receiver_rows = lend(receiver_len);
-    uint8_t *message = lend(message_len), *frame = lend(frame_len), *out = lend(message_len);
+    uint8_t sender[TOB_STATE_LEN];
+    struct receiver first, late;
+    uint8_t *sender_rows = lend(sender_len), *message = lend(message_len), *frame = lend(frame_len);
     bool good = true;
 
     if (tob_open_sender(settings, sender, sizeof sender, sender_rows, sender_len) != TOB_ACCEPTED
-        || tob_open_receiver(settings, receiver, sizeof receiver, receiver_rows, receiver_len) != TOB_ACCEPTED)
+        || !switch_on(&first, 0) || !switch_on(&late, SWITCHED_ON))
         return 1;
     for (int slot = 0; slot < SLOTS; slot++) {
         fill(message, message_len, slot);
         if (tob_send(sender, sizeof sender, sender_rows, sender_len, message, message_len, frame, frame_len)
             != TOB_ACCEPTED)
             return 1;
-        uint32_t reply;
-        if (is_lost(slot))
-            reply = tob_lost(receiver, sizeof receiver, receiver_rows, receiver_len, out, message_len);
-        else
-            reply = tob_heard(receiver, sizeof receiver, receiver_rows, receiver_len, frame, frame_len, out,
-                              message_len);
-
-        int t = slot - DELAY;
         printf("slot %d %s: ", slot, is_lost(slot) ? "lost" : "heard");
-        if (reply == TOB_NONE_YET)
-            printf("none yet\n");
-        else if (reply == TOB_WHOLE)
-            printf("%d whole %02x%02x%02x%02x\n", t, out[0], out[1], out[2], out[3]);
-        else
-            printf("%d %s\n", t, reply == TOB_LOST ? "lost" : reply == TOB_CLASH ? "clash" : "refused");
-
-        if (t >= 0 && is_fair(t)) {
-            fill(message, message_len, t);
-            good = good && reply == TOB_WHOLE && memcmp(out, message, message_len) == 0;
-        }
+        good = report(&first, slot, frame, true) && good;
+        if (slot < SWITCHED_ON)
+            continue;
+        if (slot <= SHOWN)
+            printf("  switched on at slot %d: ", SWITCHED_ON);
+        good = report(&late, slot, frame, slot <= SHOWN) && good;
     }
 
-    /* Refused: the last frame is not that of the slot that is due now, and a sender's state is no receiver's. */
-    if (tob_heard(receiver, sizeof receiver, receiver_rows, receiver_len, frame, frame_len, out, message_len)
+    /* Refused: the last frame is not that of the slot that is due now, a sender's state is no receiver's, and there is
+     * no slot 4,000,000,000 to open a receiver at. */
+    if (tob_heard(first.state, sizeof first.state, first.rows, receiver_len, frame, frame_len, message, message_len)
         != TOB_OTHER_SLOT)
         good = false;
-    if (tob_lost(sender, sizeof sender, receiver_rows, receiver_len, out, message_len) != TOB_BAD_SETTINGS)
+    if (tob_lost(sender, sizeof sender, first.rows, receiver_len, message, message_len) != TOB_BAD_SETTINGS)
         good = false;
-    printf("the last frame again: refused\nwith the sender's state: refused\n%s\n", good ? "good" : "bad");
-    free(sender_rows), free(receiver_rows), free(message), free(frame), free(out);
+    if (tob_open_receiver_at(settings, 4000000000u, late.state, sizeof late.state, late.rows, receiver_len)
+        != TOB_LATE_OPENING)
+        good = false;
+    printf("the last frame again: refused\nwith the sender's state: refused\nopened past the last slot: refused\n%s\n",
+           good ? "good" : "bad");
+    free(sender_rows), free(first.rows), free(late.rows), free(message), free(frame);
     return good ? 0 : 1;
 }

@@ -3,11 +3,11 @@
  * Settings are five bytes: W, T, B, N and L, the window, the delay, the burst, the scattered losses and the lanes.
  * They are accepted where 1 <= N <= B <= T, T - N + 1 + B <= 16, T + 1 <= W and 1 <= L <= 64.
  *
- * The caller keeps two buffers for each end between its calls: the state, of TOB_STATE_LEN bytes, and the rows, as
- * long as tob_sender_len or tob_receiver_len says. An opening fills both, and every later call gets both as the call
- * before it left them. A message is as long as tob_message_len says, and a frame as tob_frame_len says.
+ * The caller keeps two buffers for each end between its calls: the state, as long as tob_state_len says at either end,
+ * and the rows, as long as tob_sender_len or tob_receiver_len says. An opening fills both, and every later call gets
+ * both as the call before it left them. A message is as long as tob_message_len says, and a frame as tob_frame_len says.
  *
- * Each call says by one number what became of it. With one of the six causes, 1 to 6, it is refused and changes no byte
+ * Each call says by one number what became of it. With one of the seven causes, 1 to 7, it is refused and changes no byte
  * that it was lent. The causes are checked in the order of their numbers, and the first that holds is the reply. Of a
  * state of another length no settings can be read, so there TOB_BAD_LENGTH comes before TOB_BAD_SETTINGS. Below, the
  * replies of each call stand in the order of checking.
@@ -28,20 +28,21 @@ extern "C" {
 
 /* The length of the settings, and of a state. */
 #define TOB_SETTINGS_LEN 5
-#define TOB_STATE_LEN 13
+#define TOB_STATE_LEN 20
 
 /* An opening or a send: accepted. */
 #define TOB_ACCEPTED 0u
 
 /* Refused: the settings are not accepted, or the state is not one of this end and so holds none; the state or a buffer
- * has another length than it should; the last slot, 3,999,999,999, is past; and a frame of another mark or version, of
- * other settings, or of another slot than the slot due. */
+ * has another length than it should; the last slot, 3,999,999,999, is past; a frame of another mark or version, of
+ * other settings, or of another slot than the slot due; and a receiver is to be opened past the last slot. */
 #define TOB_BAD_SETTINGS 1u
 #define TOB_BAD_LENGTH 2u
 #define TOB_PAST_LAST_SLOT 3u
 #define TOB_OTHER_MARK 4u
 #define TOB_OTHER_SETTINGS 5u
 #define TOB_OTHER_SLOT 6u
+#define TOB_LATE_OPENING 7u
 
 /* A report, accepted: it is too early for a message; the message is whole, and handed out; it is lost; or the frames
  * contradict each other. */
@@ -69,6 +70,12 @@ uint32_t tob_open_sender(const uint8_t settings[TOB_SETTINGS_LEN], uint8_t *stat
  * TOB_BAD_SETTINGS, TOB_BAD_LENGTH (state or rows), or else TOB_ACCEPTED. */
 uint32_t tob_open_receiver(const uint8_t settings[TOB_SETTINGS_LEN], uint8_t *state, size_t state_len, uint8_t *rows,
                            size_t rows_len);
+
+/* Opens a receiver at a slot, which is then the slot due: writes its state and its rows, whatever they held. The slots
+ * before it, from 0 on, are losses. Their messages are told like others, from what arrives: at slot t message t - T.
+ * TOB_BAD_SETTINGS, TOB_BAD_LENGTH (state or rows), TOB_LATE_OPENING, or else TOB_ACCEPTED. */
+uint32_t tob_open_receiver_at(const uint8_t settings[TOB_SETTINGS_LEN], uint32_t slot, uint8_t *state, size_t state_len,
+                              uint8_t *rows, size_t rows_len);
 
 /* Sends a message in the slot due: writes the slot's frame, the rows, and the state, whose slot due moves on by one.
  * TOB_BAD_LENGTH (state), TOB_BAD_SETTINGS (state), TOB_BAD_LENGTH (rows, message or frame), TOB_PAST_LAST_SLOT,

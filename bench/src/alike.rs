@@ -1,6 +1,6 @@
 //! Before anything is timed: all versions and the reference give the same frames, replies, messages and rows.
 
-use crate::engine::{Engine, Settings, State};
+use crate::engine::{Engine, Settings, State, STATE_LEN};
 use reference::patterns::Draws;
 use reference::receiver::{self, Reply};
 use reference::{frame, sender, settings, state};
@@ -10,7 +10,7 @@ use std::time::{Duration, Instant};
 struct Ends {
     version: Option<Engine>,
     states: [State; 2],
-    plain: [state::State; 2],
+    plain: (state::SenderState, state::ReceiverState),
     rows: [Vec<u8>; 2],
 }
 
@@ -24,8 +24,8 @@ impl Ends {
     fn open(version: Option<Engine>, settings: &Settings) -> Ends {
         let code = plain(settings);
         let mut rows = [vec![0; sender::rows_length(&code)], vec![0; receiver::rows_length(&code)]];
-        let mut states = [[0; 13]; 2];
-        let plain = [sender::open(code, &mut rows[0]).0, receiver::open(code, &mut rows[1]).0];
+        let mut states = [[0; STATE_LEN]; 2];
+        let plain = (sender::open(code, &mut rows[0]).0, receiver::open(code, 0, &mut rows[1]).0);
         if let Some(engine) = version {
             assert_eq!((engine.open_sender)(settings, &mut states[0], &mut rows[0]), 0);
             assert_eq!((engine.open_receiver)(settings, &mut states[1], &mut rows[1]), 0);
@@ -35,20 +35,20 @@ impl Ends {
 
     /// The frame of the slot due.
     fn send(&mut self, message: &[u8]) -> Vec<u8> {
-        let mut frame = vec![0; frame::length(&self.plain[0].settings)];
+        let mut frame = vec![0; frame::length(&self.plain.0.settings)];
         if let Some(engine) = self.version {
             assert_eq!((engine.send)(&mut self.states[0], &mut self.rows[0], message, &mut frame), 0);
         } else {
-            let (state, sent) = sender::send(self.plain[0], &mut self.rows[0], message, &mut frame);
+            let (state, sent) = sender::send(self.plain.0, &mut self.rows[0], message, &mut frame);
             assert_eq!(sent, Ok(()));
-            self.plain[0] = state;
+            self.plain.0 = state;
         }
         frame
     }
 
     /// The reply to a report of the slot due, and the message.
     fn report(&mut self, heard: Option<&[u8]>) -> (u32, Vec<u8>) {
-        let mut message = vec![9; frame::message_length(&self.plain[1].settings)];
+        let mut message = vec![9; frame::message_length(&self.plain.1.settings)];
         let (state, rows) = (&mut self.states[1], &mut self.rows[1][..]);
         let reply = match (self.version, heard) {
             (Some(engine), Some(frame)) => (engine.heard)(state, rows, frame, &mut message),
@@ -61,10 +61,10 @@ impl Ends {
     /// The same by the reference.
     fn report_plain(&mut self, heard: Option<&[u8]>, message: &mut [u8]) -> u32 {
         let (state, reply) = match heard {
-            Some(frame) => receiver::report_frame(self.plain[1], &mut self.rows[1], frame, message),
-            None => receiver::report_loss(self.plain[1], &mut self.rows[1], message),
+            Some(frame) => receiver::report_frame(self.plain.1, &mut self.rows[1], frame, message),
+            None => receiver::report_loss(self.plain.1, &mut self.rows[1], message),
         };
-        self.plain[1] = state;
+        self.plain.1 = state;
         match reply {
             Err(refusal) => u32::from(refusal.number()),
             Ok(Reply::NoneYet) => 16,

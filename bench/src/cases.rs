@@ -1,7 +1,7 @@
 //! The calls that are timed, each prepared so that it leaves the rows as they were. The plain version plays what came
 //! before them: the self-check has shown that all versions hold the same rows.
 
-use crate::engine::{plain, Engine, Settings, State};
+use crate::engine::{plain, Engine, Settings, State, STATE_LEN};
 use crate::link::{receiver, sender, shape};
 use crate::shapes::Shape;
 use reference::patterns::Draws;
@@ -68,7 +68,7 @@ impl Case {
         }
     }
 
-    /// The call, from the state before it. Restoring is a copy of 13 bytes: the rows hold already what it writes.
+    /// The call, from the state before it. Restoring is a copy of a state: the rows hold already what it writes.
     #[inline]
     pub fn call(&mut self) -> u32 {
         self.state = self.before;
@@ -139,7 +139,7 @@ fn sending(engine: Engine, settings: &Settings, due: u32) -> Case {
     }
     let given = messages[count as usize % period].clone();
     let row = (due + count) as usize % period * sender.length;
-    let mut before = [0; 13];
+    let mut before = [0; STATE_LEN];
     assert_eq!((engine.open_sender)(settings, &mut before, &mut sender.rows.clone()), 0);
     engine.set_due(&mut before, due + count);
     Case::placed(engine, true, before, row, [&sender.rows, &given, &first]).settled(0)
@@ -153,7 +153,7 @@ fn rows_before(settings: &Settings) -> u32 {
 /// A receiver that heard all slots but those lost, about to hear the frame at which the first one's message is due.
 fn reporting(engine: Engine, settings: &Settings, due: u32, lost: &[u32]) -> Case {
     let (maker, mut sender) = (plain(), Sender::open(plain(), settings, due));
-    let (mut state, mut rows) = ([0; 13], vec![0; receiver::receiver_len(settings)]);
+    let (mut state, mut rows) = ([0; STATE_LEN], vec![0; receiver::receiver_len(settings)]);
     assert_eq!((maker.open_receiver)(settings, &mut state, &mut rows), 0);
     maker.set_due(&mut state, due);
     let mut out = vec![0; sender.length];
@@ -190,7 +190,7 @@ struct Sender {
 impl Sender {
     /// Opened afresh, at this slot due.
     fn open(engine: Engine, settings: &Settings, due: u32) -> Sender {
-        let (mut state, mut rows) = ([0; 13], vec![0; sender::sender_len(settings)]);
+        let (mut state, mut rows) = ([0; STATE_LEN], vec![0; sender::sender_len(settings)]);
         assert_eq!((engine.open_sender)(settings, &mut state, &mut rows), 0);
         engine.set_due(&mut state, due);
         let frame = vec![0; shape::frame_len(settings)];

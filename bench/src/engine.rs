@@ -3,10 +3,7 @@
 use crate::link::{receiver, sender};
 use crate::{plain, planes};
 
-/// W, T, B, N, L.
-pub type Settings = [u8; 5];
-/// The bytes of a state.
-pub type State = [u8; 13];
+pub use crate::link::shape::{Settings, State, STATE_LEN};
 
 /// A send (with a message, then a frame) or a report of a frame (with a frame, then a message).
 pub type Send = fn(&mut State, &mut [u8], &[u8], &mut [u8]) -> u32;
@@ -79,13 +76,13 @@ pub fn ours() -> Option<Engine> {
 #[cfg(feature = "ours")]
 fn places_of_due(engine: &Engine) -> [usize; 4] {
     let settings = [2, 1, 1, 1, 1];
-    let (mut state, mut rows, mut frame) = ([0; 13], [0; 1], [0; 16]);
+    let (mut state, mut rows, mut frame) = ([0; STATE_LEN], [0; 1], [0; 16]);
     assert_eq!((engine.open_sender)(&settings, &mut state, &mut rows), 0);
     let mut moved = Vec::new();
     for _ in 0..256 {
         let before = state;
         assert_eq!((engine.send)(&mut state, &mut rows, &[0], &mut frame), 0);
-        moved.extend((0..13).filter(|&place| before[place] != state[place] && state[place] == 1));
+        moved.extend((0..STATE_LEN).filter(|&place| before[place] != state[place] && state[place] == 1));
     }
     let [low, next] = moved[..] else { panic!("the slot due does not count up in the state: {moved:?}") };
     if next < low { [low - 3, low - 2, next, low] } else { [low + 3, low + 2, next, low] }

@@ -70,7 +70,7 @@ fn restoring() {
     let mut case = Case::of(engine::plain(), Operation::Send, &SHAPES[0], 64, table::EARLY);
     let found = times(&mut [repeated(|| case.restore())], 200);
     println!(
-        "Each call starts from the same state and rows: its 13 bytes of state are put back, and the rows hold already \
+        "Each call starts from the same state and rows: its 20 bytes of state are put back, and the rows hold already \
          what the call writes. Putting back takes {:.1} ns, which every time includes.\n",
         found[0].median
     );

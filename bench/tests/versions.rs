@@ -1,13 +1,13 @@
 //! The Rust versions beside the reference: each call from copies of the same state and rows.
 
-use bench::engine::{self, Engine};
+use bench::engine::{self, Engine, STATE_LEN};
 use bench::link::receiver::receiver_len;
 use bench::link::sender::sender_len;
 use bench::link::shape;
 use reference::patterns::Draws;
 use reference::receiver::Reply;
 use reference::settings::{every_code, Settings};
-use reference::state::{Refusal, State};
+use reference::state::{ReceiverState, Refusal, SenderState};
 use reference::{receiver, sender};
 
 /// The versions.
@@ -27,10 +27,20 @@ fn five(s: &Settings) -> engine::Settings {
     [s.window, s.delay, s.burst, s.scattered, s.lanes]
 }
 
-/// The state as the reference has it.
-fn plain(settings: Settings, state: &engine::State) -> State {
-    assert_eq!((&state[..5], &state[9..]), (&five(&settings)[..], &[0; 4][..]));
-    State { settings, due: shape::due(state) }
+/// The slot due of a state that keeps nothing else but these settings.
+fn due(settings: Settings, state: &engine::State) -> u32 {
+    assert_eq!((&state[..5], &state[9..]), (&five(&settings)[..], &[0; STATE_LEN - 9][..]));
+    shape::due(state)
+}
+
+/// A sender's state as the reference has it.
+fn sending(settings: Settings, state: &engine::State) -> SenderState {
+    SenderState { settings, due: due(settings, state) }
+}
+
+/// A receiver's, which was opened at slot 0.
+fn receiving(settings: Settings, state: &engine::State) -> ReceiverState {
+    ReceiverState { settings, opened_at: 0, due: due(settings, state) }
 }
 
 /// The reply as a number.
@@ -55,15 +65,15 @@ impl Link {
         let mut link = Link {
             version,
             settings,
-            sender: ([9; 13], vec![9; sender_len(&five)]),
-            receiver: ([9; 13], vec![9; receiver_len(&five)]),
+            sender: ([9; STATE_LEN], vec![9; sender_len(&five)]),
+            receiver: ([9; STATE_LEN], vec![9; receiver_len(&five)]),
             draws,
         };
         let (mut a, mut b) = (link.sender.1.clone(), link.receiver.1.clone());
-        let (one, other) = (sender::open(settings, &mut a), receiver::open(settings, &mut b));
+        let (one, other) = (sender::open(settings, &mut a), receiver::open(settings, 0, &mut b));
         assert_eq!((version.open_sender)(&five, &mut link.sender.0, &mut link.sender.1), number(one.1, |()| 0));
         assert_eq!((version.open_receiver)(&five, &mut link.receiver.0, &mut link.receiver.1), number(other.1, |()| 0));
-        assert_eq!((plain(settings, &link.sender.0), plain(settings, &link.receiver.0)), (one.0, other.0));
+        assert_eq!((sending(settings, &link.sender.0), receiving(settings, &link.receiver.0)), (one.0, other.0));
         assert!(link.sender.1 == a && link.receiver.1 == b);
         shape::set_due(&mut link.sender.0, due);
         shape::set_due(&mut link.receiver.0, due);
@@ -75,12 +85,12 @@ impl Link {
         let message = self.draws.bytes(shape::message_len(&five(&self.settings)));
         let mut frame = vec![9; shape::frame_len(&five(&self.settings))];
         let (mut rows, mut other) = (self.sender.1.clone(), frame.clone());
-        let before = plain(self.settings, &self.sender.0);
+        let before = sending(self.settings, &self.sender.0);
         let (state, buffer) = &mut self.sender;
         let reply = (self.version.send)(state, buffer, &message, &mut frame);
         if compared {
             let (after, sent) = sender::send(before, &mut rows, &message, &mut other);
-            assert_eq!((reply, plain(self.settings, &self.sender.0)), (number(sent, |()| 0), after));
+            assert_eq!((reply, sending(self.settings, &self.sender.0)), (number(sent, |()| 0), after));
             assert!(frame == other && self.sender.1 == rows, "{:?}", self.settings);
         }
         frame
@@ -90,7 +100,7 @@ impl Link {
     fn report(&mut self, frame: Option<&[u8]>, compared: bool) -> u32 {
         let mut message = vec![9; shape::message_len(&five(&self.settings))];
         let (mut rows, mut other) = (self.receiver.1.clone(), message.clone());
-        let before = plain(self.settings, &self.receiver.0);
+        let before = receiving(self.settings, &self.receiver.0);
         let (state, buffer) = &mut self.receiver;
         let reply = match frame {
             Some(frame) => (self.version.heard)(state, buffer, frame, &mut message),
@@ -101,7 +111,7 @@ impl Link {
                 Some(frame) => receiver::report_frame(before, &mut rows, frame, &mut other),
                 None => receiver::report_loss(before, &mut rows, &mut other),
             };
-            assert_eq!((reply, plain(self.settings, &self.receiver.0)), (number(said, verdict), after));
+            assert_eq!((reply, receiving(self.settings, &self.receiver.0)), (number(said, verdict), after));
             assert!(message == other && self.receiver.1 == rows, "{:?}", self.settings);
         }
         reply
@@ -200,7 +210,7 @@ fn refusals(version: Engine) {
     link.receiver.0[0] = 4;
     link.settings.window = 4;
     assert_eq!(link.report(Some(&good), false), 1);
-    let mut state = [9; 13];
+    let mut state = [9; STATE_LEN];
     assert_eq!((version.open_receiver)(&[4, 4, 2, 2, 3], &mut state, &mut []), 1);
-    assert_eq!(((version.open_sender)(&five(&settings), &mut state, &mut []), state), (2, [0; 13]));
+    assert_eq!(((version.open_sender)(&five(&settings), &mut state, &mut []), state), (2, [0; STATE_LEN]));
 }

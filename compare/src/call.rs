@@ -1,4 +1,4 @@
-//! The five calls with the things that they are lent, and the library's side of each.
+//! The six calls with the things that they are lent, and the library's side of each.
 
 use crate::lent::Lent;
 
@@ -6,29 +6,39 @@ use crate::lent::Lent;
 pub enum Kind {
     OpenSender,
     OpenReceiver,
+    OpenReceiverAt,
     Send,
     Heard,
     Lost,
 }
 
 impl Kind {
-    pub const ALL: [Kind; 5] =
-        [Kind::OpenSender, Kind::OpenReceiver, Kind::Send, Kind::Heard, Kind::Lost];
+    pub const ALL: [Kind; 6] = [
+        Kind::OpenSender,
+        Kind::OpenReceiver,
+        Kind::OpenReceiverAt,
+        Kind::Send,
+        Kind::Heard,
+        Kind::Lost,
+    ];
 
     pub fn name(self) -> &'static str {
         match self {
             Kind::OpenSender => "open_sender",
             Kind::OpenReceiver => "open_receiver",
+            Kind::OpenReceiverAt => "open_receiver_at",
             Kind::Send => "send",
             Kind::Heard => "heard",
             Kind::Lost => "lost",
         }
     }
 
-    /// The names of the things lent, in the order of the library's arguments.
+    /// The names of the things lent, in the order of the library's arguments. The slot of an
+    /// opening is handed over as a number; here it is its four bytes, high byte first.
     pub fn things(self) -> &'static [&'static str] {
         match self {
             Kind::OpenSender | Kind::OpenReceiver => &["settings", "state", "rows"],
+            Kind::OpenReceiverAt => &["settings", "slot", "state", "rows"],
             Kind::Send => &["state", "rows", "message", "frame"],
             Kind::Heard => &["state", "rows", "frame", "message"],
             Kind::Lost => &["state", "rows", "message"],
@@ -36,7 +46,7 @@ impl Kind {
     }
 
     pub fn opens(self) -> bool {
-        matches!(self, Kind::OpenSender | Kind::OpenReceiver)
+        matches!(self, Kind::OpenSender | Kind::OpenReceiver | Kind::OpenReceiverAt)
     }
 }
 
@@ -50,6 +60,11 @@ pub struct Call {
 impl Call {
     pub fn open(kind: Kind, settings: [u8; 5], state: Vec<u8>, rows: Vec<u8>) -> Call {
         Call { kind, things: vec![settings.to_vec(), state, rows] }
+    }
+
+    pub fn open_at(settings: [u8; 5], slot: u32, state: Vec<u8>, rows: Vec<u8>) -> Call {
+        let slot = slot.to_be_bytes().to_vec();
+        Call { kind: Kind::OpenReceiverAt, things: vec![settings.to_vec(), slot, state, rows] }
     }
 
     pub fn send(state: Vec<u8>, rows: Vec<u8>, message: Vec<u8>, frame: Vec<u8>) -> Call {
@@ -81,6 +96,11 @@ impl Call {
     }
 }
 
+/// The number that four bytes are, high byte first.
+pub fn number_of(bytes: &[u8]) -> u32 {
+    u32::from_be_bytes(bytes.try_into().expect("a number is four bytes"))
+}
+
 /// The library's answer; what it writes is in the things afterwards.
 pub fn by_library(kind: Kind, lent: &mut [Lent]) -> u32 {
     match (kind, lent) {
@@ -89,6 +109,10 @@ pub fn by_library(kind: Kind, lent: &mut [Lent]) -> u32 {
         }
         (Kind::OpenReceiver, [settings, state, rows]) => {
             tob::open_receiver(settings.settings(), state.bytes(), rows.bytes())
+        }
+        (Kind::OpenReceiverAt, [settings, slot, state, rows]) => {
+            let slot = number_of(slot.bytes());
+            tob::open_receiver_at(settings.settings(), slot, state.bytes(), rows.bytes())
         }
         (Kind::Send, [state, rows, message, frame]) => {
             tob::send(state.bytes(), rows.bytes(), message.bytes(), frame.bytes())

@@ -7,7 +7,7 @@ use reference::settings::Settings;
 use crate::call::{by_library, Call};
 use crate::draw::Draws;
 use crate::lent::Lent;
-use crate::model::{by_reference, lengths, settings_of};
+use crate::model::{by_reference, lengths, settings_of, STATE};
 use crate::report::Met;
 
 /// Why the comparison ended.
@@ -91,7 +91,7 @@ impl Comparison {
             None => "settings: none to be read".to_string(),
         });
         for (name, thing) in before.kind.things().iter().zip(&before.things) {
-            let start: Vec<String> = thing.iter().take(16).map(|b| format!("{b:02x}")).collect();
+            let start: Vec<String> = thing.iter().take(STATE).map(|b| format!("{b:02x}")).collect();
             lines.push(format!("lent {name}: {} bytes, {} ..", thing.len(), start.join(" ")));
         }
         lines.push(format!("reply: library {}, expected {}", replies[0], replies[1]));

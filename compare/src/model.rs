@@ -4,12 +4,19 @@ use reference::frame;
 use reference::receiver::{self, Reply};
 use reference::sender;
 use reference::settings::Settings;
-use reference::state::{Refusal, State};
+use reference::state::{ReceiverState, Refusal, SenderState};
 
-use crate::call::Kind;
+use crate::call::{number_of, Kind};
 
-/// The length of a state: its mark, W, T, B, N, L and the slot due.
-pub const STATE: usize = 13;
+/// The length of a state: its mark, W, T, B, N, L, the slot due, a receiver's opening slot, and
+/// bytes that are kept for later.
+pub const STATE: usize = 20;
+/// Where the slot due stands in a state, and where a receiver's opening slot does.
+pub const DUE: std::ops::Range<usize> = 9..13;
+pub const OPENED_AT: std::ops::Range<usize> = 13..17;
+/// Where the bytes begin that no call reads, of a sender's state and of a receiver's.
+pub const UNREAD_OF_SENDER: usize = 13;
+pub const UNREAD_OF_RECEIVER: usize = 17;
 /// The mark of a sender's state, and of a receiver's.
 pub const SENDER: [u8; 4] = [0x54, 0x4F, 0x42, 0x53];
 pub const RECEIVER: [u8; 4] = [0x54, 0x4F, 0x42, 0x52];
@@ -26,21 +33,47 @@ pub fn bytes_of(s: &Settings) -> [u8; 5] {
     [s.window, s.delay, s.burst, s.scattered, s.lanes]
 }
 
-/// The bytes of a state, for any settings and any slot due.
-pub fn state_bytes(mark: [u8; 4], state: &State) -> Vec<u8> {
-    [&mark[..], &bytes_of(&state.settings), &state.due.to_be_bytes()].concat()
+/// The bytes of a sender's state, for any settings and any slot due.
+pub fn sender_bytes(state: &SenderState) -> Vec<u8> {
+    filled_up([&SENDER[..], &bytes_of(&state.settings), &state.due.to_be_bytes()].concat())
 }
 
-/// The state that these bytes hold, or the cause that they give before any of the call's own:
+/// The bytes of a receiver's state, for any settings, any slot due and any opening slot.
+pub fn receiver_bytes(state: &ReceiverState) -> Vec<u8> {
+    let [due, opened_at] = [state.due, state.opened_at].map(u32::to_be_bytes);
+    filled_up([&RECEIVER[..], &bytes_of(&state.settings), &due, &opened_at].concat())
+}
+
+/// Zeros behind what is written.
+fn filled_up(mut bytes: Vec<u8>) -> Vec<u8> {
+    bytes.resize(STATE, 0);
+    bytes
+}
+
+/// The settings that a state holds, or the cause that its bytes give before any of the call's own:
 /// of another length no settings can be read, and with another mark they are none of this end's.
-fn state_of(mark: [u8; 4], bytes: &[u8]) -> Result<State, u32> {
-    let bytes: [u8; STATE] = bytes.try_into().map_err(|_| BAD_LENGTH)?;
-    let [m0, m1, m2, m3, w, t, b, n, l, d0, d1, d2, d3] = bytes;
-    if [m0, m1, m2, m3] != mark {
+fn settings_in(mark: [u8; 4], state: &[u8]) -> Result<Settings, u32> {
+    if state.len() != STATE {
+        return Err(BAD_LENGTH);
+    }
+    let (found, behind) = state.split_at(mark.len());
+    if found != mark {
         return Err(BAD_SETTINGS);
     }
-    let settings = settings_of([w, t, b, n, l]);
-    Ok(State { settings, due: u32::from_be_bytes([d0, d1, d2, d3]) })
+    Ok(settings_of([behind[0], behind[1], behind[2], behind[3], behind[4]]))
+}
+
+/// The state that a sender's bytes hold; those behind the slot due say nothing.
+fn sender_of(bytes: &[u8]) -> Result<SenderState, u32> {
+    let settings = settings_in(SENDER, bytes)?;
+    Ok(SenderState { settings, due: number_of(&bytes[DUE]) })
+}
+
+/// The state that a receiver's bytes hold; those behind the opening slot say nothing.
+fn receiver_of(bytes: &[u8]) -> Result<ReceiverState, u32> {
+    let settings = settings_in(RECEIVER, bytes)?;
+    let [due, opened_at] = [DUE, OPENED_AT].map(|place| number_of(&bytes[place]));
+    Ok(ReceiverState { settings, opened_at, due })
 }
 
 /// The lengths of a message, a frame, a sender's rows and a receiver's: 0 if not accepted.
@@ -59,26 +92,38 @@ pub fn lengths(settings: &Settings) -> [usize; 4] {
 /// The expected answer; what is to be written is in the things afterwards.
 pub fn by_reference(kind: Kind, things: &mut [Vec<u8>]) -> u32 {
     match (kind, things) {
-        (Kind::OpenSender, [settings, state, rows]) => {
-            opened(SENDER, state, |settings| sender::open(settings, rows), settings)
-        }
-        (Kind::OpenReceiver, [settings, state, rows]) => {
-            opened(RECEIVER, state, |settings| receiver::open(settings, rows), settings)
-        }
-        (Kind::Send, [state, rows, message, frame]) => moved_on(SENDER, state, |state| {
-            let (state, sent) = sender::send(state, rows, message, frame);
-            (state, sent.map(|()| 0))
+        (Kind::OpenSender, [settings, state, rows]) => opened(settings, state, |settings| {
+            let (state, opened) = sender::open(settings, rows);
+            opened.map(|()| sender_bytes(&state))
         }),
-        (Kind::Heard, [state, rows, frame, message]) => moved_on(RECEIVER, state, |state| {
-            let (state, reply) = receiver::report_frame(state, rows, frame, message);
-            (state, reply.map(number))
+        (Kind::OpenReceiver, [settings, state, rows]) => open_receiver(settings, 0, state, rows),
+        (Kind::OpenReceiverAt, [settings, slot, state, rows]) => {
+            open_receiver(settings, number_of(slot), state, rows)
+        }
+        (Kind::Send, [state, rows, message, frame]) => moved_on(sender_of(state), state, |start| {
+            let (next, sent) = sender::send(start, rows, message, frame);
+            sent.map(|()| (0, sender_bytes(&next)))
         }),
-        (Kind::Lost, [state, rows, message]) => moved_on(RECEIVER, state, |state| {
-            let (state, reply) = receiver::report_loss(state, rows, message);
-            (state, reply.map(number))
+        (Kind::Heard, [state, rows, frame, message]) => {
+            moved_on(receiver_of(state), state, |start| {
+                let (next, reply) = receiver::report_frame(start, rows, frame, message);
+                reply.map(|reply| (number(reply), receiver_bytes(&next)))
+            })
+        }
+        (Kind::Lost, [state, rows, message]) => moved_on(receiver_of(state), state, |start| {
+            let (next, reply) = receiver::report_loss(start, rows, message);
+            reply.map(|reply| (number(reply), receiver_bytes(&next)))
         }),
         _ => unreachable!("a call is lent the things of its kind"),
     }
+}
+
+/// Both openings of a receiver: the one without a slot is at slot 0.
+fn open_receiver(settings: &[u8], slot: u32, state: &mut [u8], rows: &mut [u8]) -> u32 {
+    opened(settings, state, |settings| {
+        let (state, opened) = receiver::open(settings, slot, rows);
+        opened.map(|()| receiver_bytes(&state))
+    })
 }
 
 fn number(reply: Reply) -> u32 {
@@ -90,66 +135,111 @@ fn number(reply: Reply) -> u32 {
     }
 }
 
-/// An opening: the settings first, then the lengths, that of the state among them. A refused one
-/// leaves the state as it was.
+/// An opening: the settings first, then the lengths, that of the state among them, then the slot.
+/// A refused one leaves the state as it was.
 fn opened(
-    mark: [u8; 4],
-    state: &mut [u8],
-    open: impl FnOnce(Settings) -> (State, Result<(), Refusal>),
     settings: &[u8],
+    state: &mut [u8],
+    open: impl FnOnce(Settings) -> Result<Vec<u8>, Refusal>,
 ) -> u32 {
     let settings = settings_of(settings.try_into().expect("settings are five bytes"));
     if settings.accepted() && state.len() != STATE {
         return BAD_LENGTH;
     }
     match open(settings) {
-        (next, Ok(())) => {
-            state.copy_from_slice(&state_bytes(mark, &next));
+        Ok(next) => {
+            state.copy_from_slice(&next);
             0
         }
-        (_, Err(refusal)) => u32::from(refusal.number()),
+        Err(refusal) => u32::from(refusal.number()),
     }
 }
 
-/// A call that starts from a state and hands one back.
-fn moved_on(
-    mark: [u8; 4],
-    bytes: &mut [u8],
-    call: impl FnOnce(State) -> (State, Result<u32, Refusal>),
+/// A call that starts from a state. An accepted one writes every byte of the next state; a refused
+/// one leaves the state as it was.
+fn moved_on<A>(
+    start: Result<A, u32>,
+    state: &mut [u8],
+    call: impl FnOnce(A) -> Result<(u32, Vec<u8>), Refusal>,
 ) -> u32 {
-    let state = match state_of(mark, bytes) {
-        Ok(state) => state,
-        Err(cause) => return cause,
-    };
-    let (next, answer) = call(state);
-    bytes.copy_from_slice(&state_bytes(mark, &next));
-    answer.unwrap_or_else(|refusal| u32::from(refusal.number()))
+    match start.map(call) {
+        Ok(Ok((reply, next))) => {
+            state.copy_from_slice(&next);
+            reply
+        }
+        Ok(Err(refusal)) => u32::from(refusal.number()),
+        Err(cause) => cause,
+    }
 }
 
 #[cfg(test)]
 mod tests {
-    use super::*;
+    use reference::state::END;
 
-    /// A loss report from a state written by hand, with the lengths that the settings give.
-    fn lost(mark: [u8; 4], settings: Settings, due: u32, state: usize) -> u32 {
+    use super::*;
+    use crate::call::Call;
+
+    fn settings() -> Settings {
+        Settings::of_code(3, 2, 2)
+    }
+
+    /// The bytes of a receiver's state, opened at slot 3.
+    fn state(settings: Settings, due: u32) -> Vec<u8> {
+        receiver_bytes(&ReceiverState { settings, opened_at: 3, due })
+    }
+
+    /// A loss report from these bytes, with the lengths that the settings give: the reply, and the
+    /// bytes afterwards.
+    fn lost(state: Vec<u8>, settings: Settings) -> (u32, Vec<u8>) {
         let [message, .., rows] = lengths(&settings);
-        let mut bytes = state_bytes(mark, &State { settings, due });
-        bytes.resize(state, 0);
-        by_reference(Kind::Lost, &mut [bytes, vec![0; rows], vec![0; message]])
+        let mut things = [state, vec![0; rows], vec![0; message]];
+        let reply = by_reference(Kind::Lost, &mut things);
+        (reply, things[0].clone())
     }
 
     #[test]
     fn what_a_state_is_refused_for() {
-        let settings = Settings::of_code(3, 2, 2);
-        let other = Settings { lanes: 65, ..settings };
-        assert_eq!(lost(RECEIVER, settings, 3, STATE), 18);
-        assert_eq!(lost(RECEIVER, settings, State::END - 1, STATE), 18);
-        assert_eq!(lost(RECEIVER, settings, State::END, STATE), 3);
-        assert_eq!(lost(RECEIVER, settings, u32::MAX, STATE), 3);
-        assert_eq!(lost(RECEIVER, other, u32::MAX, STATE), 1);
-        assert_eq!(lost(SENDER, settings, u32::MAX, STATE), 1);
-        assert_eq!(lost(SENDER, other, 3, STATE - 1), 2);
-        assert_eq!(lost(RECEIVER, settings, 3, STATE + 1), 2);
+        let other = Settings { lanes: 65, ..settings() };
+        let reply = |settings: Settings, due: u32| lost(state(settings, due), settings).0;
+        assert_eq!(reply(settings(), 3), 18);
+        assert_eq!(reply(settings(), END - 1), 18);
+        assert_eq!(reply(settings(), END), 3);
+        assert_eq!(reply(settings(), u32::MAX), 3);
+        assert_eq!(reply(other, u32::MAX), 1);
+        let sender = |settings| sender_bytes(&SenderState { settings, due: 3 });
+        assert_eq!(lost(sender(settings()), settings()).0, 1);
+        assert_eq!(lost(sender(other)[1..].to_vec(), other).0, 2);
+        assert_eq!(lost([&state(settings(), 3)[..], &[0]].concat(), settings()).0, 2);
+    }
+
+    #[test]
+    fn the_bytes_of_both_states() {
+        let state = SenderState { settings: settings(), due: 0x01020304 };
+        let start = [0x54, 0x4F, 0x42, 0x53, 4, 3, 2, 2, 1, 1, 2, 3, 4];
+        assert_eq!(sender_bytes(&state), [&start[..], &[0; 7]].concat());
+        let state = ReceiverState { settings: settings(), opened_at: 0x05060708, due: 0x01020304 };
+        let start = [0x54, 0x4F, 0x42, 0x52, 4, 3, 2, 2, 1, 1, 2, 3, 4, 5, 6, 7, 8];
+        assert_eq!(receiver_bytes(&state), [&start[..], &[0; 3]].concat());
+        assert_eq!(receiver_of(&receiver_bytes(&state)), Ok(state));
+    }
+
+    #[test]
+    fn unread_bytes_become_zeros_when_a_call_is_accepted_and_stay_when_it_is_refused() {
+        let with = |mut bytes: Vec<u8>, unread: usize| {
+            bytes[unread..].fill(7);
+            bytes
+        };
+        let receiver = |due: u32| with(state(settings(), due), UNREAD_OF_RECEIVER);
+        assert_eq!(lost(receiver(3), settings()), (18, state(settings(), 4)));
+        assert_eq!(lost(receiver(END), settings()), (3, receiver(END)));
+        let bytes = |due: u32| sender_bytes(&SenderState { settings: settings(), due });
+        let [message, frame, rows, _] = lengths(&settings());
+        for (due, reply) in [(5, 0), (END, 3)] {
+            let before = with(bytes(due), UNREAD_OF_SENDER);
+            let mut things = [before.clone(), vec![0; rows], vec![0; message], vec![0; frame]];
+            assert_eq!(by_reference(Kind::Send, &mut things), reply);
+            assert_eq!(things[0], if reply == 0 { bytes(due + 1) } else { before });
+        }
     }
 
     #[test]
@@ -157,11 +247,41 @@ mod tests {
         let open = |settings: [u8; 5], state, rows| {
             by_reference(Kind::OpenSender, &mut [settings.to_vec(), vec![7; state], vec![7; rows]])
         };
-        let settings = bytes_of(&Settings::of_code(3, 2, 2));
-        let rows = lengths(&settings_of(settings))[2];
-        assert_eq!(open(settings, STATE, rows), 0);
-        assert_eq!(open(settings, STATE + 1, rows), 2);
-        assert_eq!(open(settings, STATE, rows + 1), 2);
+        let (good, rows) = (bytes_of(&settings()), lengths(&settings())[2]);
+        assert_eq!(open(good, STATE, rows), 0);
+        assert_eq!(open(good, STATE + 1, rows), 2);
+        assert_eq!(open(good, STATE, rows + 1), 2);
         assert_eq!(open([0; 5], STATE + 1, rows + 1), 1);
+    }
+
+    #[test]
+    fn an_opening_at_a_slot_meets_settings_before_lengths_before_the_slot() {
+        let exact = lengths(&settings())[3];
+        let open = |settings: [u8; 5], slot: u32, state: usize, rows: usize| {
+            let mut call = Call::open_at(settings, slot, vec![7; state], vec![7; rows]);
+            let before = call.things.clone();
+            let reply = by_reference(call.kind, &mut call.things);
+            assert_eq!(reply == 0, call.things != before);
+            reply
+        };
+        let good = bytes_of(&settings());
+        for (slot, at_slot) in [(0, 0), (END - 1, 0), (END, 7), (u32::MAX, 7)] {
+            assert_eq!(open(good, slot, STATE, exact), at_slot);
+            assert_eq!(open(good, slot, STATE + 1, exact), 2);
+            assert_eq!(open(good, slot, STATE, exact + 1), 2);
+            assert_eq!(open([0; 5], slot, STATE, exact), 1);
+            assert_eq!(open([0; 5], slot, STATE + 1, exact + 1), 1);
+        }
+    }
+
+    #[test]
+    fn an_opening_without_a_slot_is_the_one_at_0() {
+        let rows = lengths(&settings())[3];
+        let (settings, state, rows) = (bytes_of(&settings()), vec![7; STATE], vec![7; rows]);
+        let mut plain = Call::open(Kind::OpenReceiver, settings, state.clone(), rows.clone());
+        let mut at_0 = Call::open_at(settings, 0, state, rows);
+        assert_eq!(by_reference(plain.kind, &mut plain.things), 0);
+        assert_eq!(by_reference(at_0.kind, &mut at_0.things), 0);
+        assert_eq!(plain.things[1..], at_0.things[2..]);
     }
 }

@@ -7,12 +7,23 @@ use reference::settings::{every_code, Settings};
 use crate::call::Kind;
 
 /// Every number that a call can reply; a comparison that never met one of them proves little.
-const REPLIES: [u32; 11] = [0, 1, 2, 3, 4, 5, 6, 16, 17, 18, 19];
+const REPLIES: [u32; 12] = [0, 1, 2, 3, 4, 5, 6, 7, 16, 17, 18, 19];
 
 /// The number of accepted (T, B, N).
 const CODES: usize = 372;
 
 type Code = (u8, u8, u8);
+
+/// What there is to say of a message that was promised.
+#[derive(Clone, Copy, Default)]
+pub struct Promise {
+    /// It was promised by the wider rule only.
+    pub in_a_fade: bool,
+    /// It was sent before the slot at which the receiver was opened.
+    pub earlier: bool,
+    /// That opening left no row received.
+    pub no_row: bool,
+}
 
 #[derive(Default)]
 pub struct Met {
@@ -27,6 +38,10 @@ pub struct Met {
     fair: usize,
     /// How many of them were promised by the wider rule only, by code.
     fades: BTreeMap<Code, usize>,
+    /// How many of them were of slots before the opening, by code.
+    earlier: BTreeMap<Code, usize>,
+    /// How many of those behind an opening that left no row received, by code.
+    earlier_with_no_row: BTreeMap<Code, usize>,
 }
 
 impl Met {
@@ -41,11 +56,31 @@ impl Met {
     }
 
     /// One message that was promised, and was whole, as sent.
-    pub fn add_promised(&mut self, settings: &Settings, in_a_fade: bool) {
+    pub fn add_promised(&mut self, settings: &Settings, promise: Promise) {
         self.fair += 1;
-        if in_a_fade {
-            *self.fades.entry(code_of(settings)).or_default() += 1;
+        for (holds, counts) in [
+            (promise.in_a_fade, &mut self.fades),
+            (promise.earlier, &mut self.earlier),
+            (promise.earlier && promise.no_row, &mut self.earlier_with_no_row),
+        ] {
+            if holds {
+                *counts.entry(code_of(settings)).or_default() += 1;
+            }
         }
+    }
+
+    /// Each kind of promise that some codes can have: what it is called, how often each code met
+    /// it, and how many codes there are that can.
+    fn promises(&self) -> [(&'static str, &BTreeMap<Code, usize>, usize); 3] {
+        [
+            ("promised by the wider rule only", &self.fades, with_fades()),
+            ("of slots before the opening", &self.earlier, every_code().len()),
+            (
+                "of slots before an opening that left no row received",
+                &self.earlier_with_no_row,
+                with_long_bursts(),
+            ),
+        ]
     }
 
     pub fn calls(&self) -> usize {
@@ -79,9 +114,10 @@ impl Met {
         }
         lines.push(format!("settings handed to the length functions: {}", grouped(self.lengths)));
         lines.push(format!("messages due under fair losses, all whole: {}", grouped(self.fair)));
-        let (in_fades, codes) = (grouped(self.fades.values().sum()), self.fades.len());
-        let only = "of these, promised by the wider rule only";
-        lines.push(format!("{only}: {in_fades}, of {codes} (T, B, N)"));
+        for (name, counts, _) in self.promises() {
+            let (messages, codes) = (grouped(counts.values().sum()), counts.len());
+            lines.push(format!("of these, {name}: {messages}, of {codes} (T, B, N)"));
+        }
         let (lanes, windows) = (self.lanes.len(), self.windows.len());
         lines.push(format!("different L: {lanes}; different W: {windows}"));
         let (met, covered) = (self.codes.len(), self.covered());
@@ -112,9 +148,10 @@ impl Met {
         for lanes in [1, 2, 3, 16, 64] {
             due(self.lanes.contains(&lanes), format!("L = {lanes} was never accepted"));
         }
-        let (met, count) = (self.fades.len(), with_fades());
-        let only = "(T, B, N) had a message promised by the wider rule only";
-        due(met == count, format!("{met} {only}, and not {count}"));
+        for (name, counts, count) in self.promises() {
+            let met = counts.len();
+            due(met == count, format!("{met} (T, B, N) had a message {name}, and not {count}"));
+        }
         due(self.lengths > 0 && self.fair > 0, "a part did not run".to_string());
         missing
     }
@@ -129,20 +166,29 @@ fn with_fades() -> usize {
     every_code().iter().filter(|code| code.scattered + 2 <= code.burst).count()
 }
 
-/// Each cause that document 01's table has for a kind of call.
+/// How many codes can recover a message from before an opening that leaves no row received: the
+/// last such message misses at least k slots. (Behind an opening at slot 1 message 0 misses one
+/// alone, which every code recovers.)
+fn with_long_bursts() -> usize {
+    every_code().iter().filter(|code| code.k() <= usize::from(code.burst)).count()
+}
+
+/// Each cause that document 01's table and document 02 §3 have for a kind of call.
 fn refusals(kind: Kind) -> impl Iterator<Item = (Kind, u32)> {
-    let last = match kind {
-        Kind::OpenSender | Kind::OpenReceiver => 2,
-        Kind::Send | Kind::Lost => 3,
-        Kind::Heard => 6,
+    let causes: &[u32] = match kind {
+        Kind::OpenSender | Kind::OpenReceiver => &[1, 2],
+        Kind::OpenReceiverAt => &[1, 2, 7],
+        Kind::Send | Kind::Lost => &[1, 2, 3],
+        Kind::Heard => &[1, 2, 3, 4, 5, 6],
     };
-    (1..=last).map(move |cause| (kind, cause))
+    causes.iter().map(move |cause| (kind, *cause))
 }
 
 /// The accepted replies that calls with a code can give.
 fn accepted((delay, burst, scattered): Code) -> BTreeSet<(Kind, u32)> {
     let reports = (16..=19).flat_map(|reply| [(Kind::Heard, reply), (Kind::Lost, reply)]);
-    let others = [Kind::OpenSender, Kind::OpenReceiver, Kind::Send].map(|kind| (kind, 0));
+    let others = [Kind::OpenSender, Kind::OpenReceiver, Kind::OpenReceiverAt, Kind::Send];
+    let others = others.map(|kind| (kind, 0));
     let mut replies: BTreeSet<(Kind, u32)> = reports.chain(others).collect();
     // Where k is 1, or the code only repeats, the frame of slot t + T alone tells message t.
     if delay == scattered || (delay == burst && scattered == 1) {
@@ -172,18 +218,36 @@ mod tests {
         assert!(Met::default().missing().len() > REPLIES.len());
     }
 
-    #[test]
-    fn a_fade_is_missing_until_every_code_that_has_them_met_one() {
-        let missing = |met: &Met| met.missing().iter().any(|text| text.contains("wider rule"));
-        let codes = every_code().into_iter().filter(|code| code.scattered + 2 <= code.burst);
+    /// A kind of promise is missing until every one of these codes met one.
+    fn missing_until_met(name: &str, codes: impl Iterator<Item = Settings>, promise: Promise) {
+        let name = format!("had a message {name},");
+        let missing = |met: &Met| met.missing().iter().any(|text| text.contains(&name));
         let mut met = Met::default();
         for code in codes {
             assert!(missing(&met));
-            met.add_promised(&code, false);
+            met.add_promised(&code, Promise::default());
             assert!(missing(&met));
-            met.add_promised(&code, true);
+            met.add_promised(&code, promise);
         }
         assert!(!missing(&met));
+    }
+
+    #[test]
+    fn a_fade_is_missing_until_every_code_that_has_them_met_one() {
+        let codes = every_code().into_iter().filter(|code| code.scattered + 2 <= code.burst);
+        let promise = Promise { in_a_fade: true, ..Promise::default() };
+        missing_until_met("promised by the wider rule only", codes, promise);
+    }
+
+    #[test]
+    fn an_earlier_message_is_missing_until_every_code_that_can_met_one() {
+        let promise = Promise { earlier: true, ..Promise::default() };
+        missing_until_met("of slots before the opening", every_code().into_iter(), promise);
+        let codes = every_code().into_iter().filter(|code| code.k() <= usize::from(code.burst));
+        let promise = Promise { no_row: true, ..promise };
+        let name = "of slots before an opening that left no row received";
+        missing_until_met(name, codes, promise);
+        assert_eq!(with_long_bursts(), 204);
     }
 
     #[test]

@@ -5,15 +5,23 @@ use crate::frame::{self, message_length};
 use crate::patterns::Draws;
 use crate::sender;
 use crate::settings::Settings;
+use crate::state::SenderState;
 
 /// Frames back to back.
 pub type Frames = Vec<Vec<u8>>;
 
 /// The sender's frames for these messages.
 pub fn of(settings: Settings, messages: &[Vec<u8>]) -> Frames {
+    from(settings, 0, messages)
+}
+
+/// The same from a later slot on, when every message before it is zeros: the sender's rows are
+/// then as the opening left them, and only the slot due is another.
+pub fn from(settings: Settings, slot: u32, messages: &[Vec<u8>]) -> Frames {
     let mut rows = vec![0; sender::rows_length(&settings)];
-    let (mut state, opened) = sender::open(settings, &mut rows);
+    let (state, opened) = sender::open(settings, &mut rows);
     assert_eq!(opened, Ok(()));
+    let mut state = SenderState { due: slot, ..state };
     let mut frames = vec![vec![0; frame::length(&settings)]; messages.len()];
     for (frame, message) in frames.iter_mut().zip(messages) {
         let sent;

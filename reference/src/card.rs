@@ -43,10 +43,11 @@ fn line(figure: u8, of_slots: &[String]) -> String {
     format!("{figure} {}", of_slots.join(" "))
 }
 
-/// A new receiver's replies: to these losses, and to the frames of the other slots.
+/// The replies of a receiver opened at slot 0 to these losses, and to the frames of the other
+/// slots.
 fn replies(settings: Settings, frames: &[Vec<u8>], lost: &[usize]) -> Vec<String> {
     let mut rows = vec![0; receiver::rows_length(&settings)];
-    let (mut state, opened) = receiver::open(settings, &mut rows);
+    let (mut state, opened) = receiver::open(settings, 0, &mut rows);
     assert_eq!(opened, Ok(()));
     let mut message = vec![0; frame::message_length(&settings)];
     let mut replies = Vec::new();

@@ -6,7 +6,6 @@ use crate::frame::{self, HEADER};
 use crate::patterns::Draws;
 use crate::play::LONGEST;
 use crate::settings::{every_code, Settings};
-use crate::state::State;
 
 pub struct Recording {
     pub kind: &'static str,
@@ -63,7 +62,7 @@ fn short(draws: &mut Draws) -> Vec<Recording> {
 fn headed(draws: &mut Draws, length: usize) -> Vec<u8> {
     let code = every_code()[draws.below(372)];
     let settings = settings(draws, code);
-    let mut bytes = frame::of(&State::opened(settings), &[]);
+    let mut bytes = frame::of(&settings, 0, &[]);
     bytes.extend(draws.bytes(length));
     bytes.truncate(length);
     bytes

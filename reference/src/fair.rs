@@ -1,5 +1,6 @@
 //! Fair losses (demand 3): which stretches of slots are fair, and which messages are promised.
 //! The rule is document 02's, §1; document 01's narrower one tells what is fair only since then.
+//! A receiver may be opened at a later slot (document 02 §3): what it missed counts as lost.
 
 use crate::settings::Settings;
 
@@ -28,28 +29,38 @@ fn count_and_span(stretch: &[bool]) -> (usize, usize) {
     (count, last.zip(first).map_or(0, |(last, first)| last - first + 1))
 }
 
-/// Whether message t is promised. The list says of each slot from 0 to t + T whether it was lost.
-pub fn promised(settings: &Settings, lost: &[bool], t: usize) -> bool {
-    every_stretch(settings, lost, t, fair)
+/// Whether message t is promised to a receiver opened at a slot. The list says of each slot from
+/// there on whether it was lost; slot t + T is in it, while slot t may be an earlier one.
+pub fn promised(settings: &Settings, opened_at: u32, lost: &[bool], t: u32) -> bool {
+    every_stretch(settings, opened_at, lost, t, fair)
 }
 
 /// The same under document 01's rule.
-pub fn promised_by_01(settings: &Settings, lost: &[bool], t: usize) -> bool {
-    every_stretch(settings, lost, t, fair_by_01)
+pub fn promised_by_01(settings: &Settings, opened_at: u32, lost: &[bool], t: u32) -> bool {
+    every_stretch(settings, opened_at, lost, t, fair_by_01)
 }
 
 /// Promised, and not so under document 01's rule: a frame was heard inside a fade.
-pub fn promised_in_a_fade(settings: &Settings, lost: &[bool], t: usize) -> bool {
-    promised(settings, lost, t) && !promised_by_01(settings, lost, t)
+pub fn promised_in_a_fade(settings: &Settings, opened_at: u32, lost: &[bool], t: u32) -> bool {
+    promised(settings, opened_at, lost, t) && !promised_by_01(settings, opened_at, lost, t)
 }
 
-/// Every stretch of at most W slots among slots t − k + 1 to t + T; those before 0 are heard.
-fn every_stretch(settings: &Settings, lost: &[bool], t: usize, rule: Rule) -> bool {
-    let before = settings.k().saturating_sub(t + 1);
-    let from = (t + 1).saturating_sub(settings.k());
-    let slots = [&vec![false; before], &lost[from..=t + settings.t()]].concat();
+/// Every stretch of at most W slots among slots t − k + 1 to t + T.
+fn every_stretch(settings: &Settings, opened_at: u32, lost: &[bool], t: u32, rule: Rule) -> bool {
+    let from = i64::from(t) - settings.k() as i64 + 1;
+    let to = i64::from(t) + settings.t() as i64;
+    let slots: Vec<bool> = (from..=to).map(|slot| counts_as_lost(opened_at, lost, slot)).collect();
     let longest = usize::from(settings.window).min(slots.len());
     (1..=longest).all(|length| slots.windows(length).all(|stretch| rule(settings, stretch)))
+}
+
+/// From the opening slot on the list tells. Of the slots before it those from 0 on are losses
+/// (document 02 §3), and those before 0 count as heard.
+fn counts_as_lost(opened_at: u32, lost: &[bool], slot: i64) -> bool {
+    match usize::try_from(slot - i64::from(opened_at)) {
+        Ok(place) => lost[place],
+        Err(_) => slot >= 0,
+    }
 }
 
 /// Every fade of a code: at most B slots and more than N losses, the first and the last slot
@@ -66,6 +77,7 @@ pub fn fades(settings: &Settings) -> Vec<Vec<bool>> {
 #[cfg(test)]
 mod tests {
     use super::*;
+    use crate::patterns::Draws;
     use crate::settings::every_code;
 
     /// So many slots, of which these are lost.
@@ -88,13 +100,13 @@ mod tests {
     fn what_is_promised_on_the_card() {
         let code = Settings::of_code(3, 2, 2);
         for promised in [promised, promised_by_01] {
-            assert!(promised(&code, &lost(9, [0, 1]), 0));
-            assert!(promised(&code, &lost(9, [0, 3]), 0));
-            assert!(!promised(&code, &lost(9, [1, 2, 4]), 1));
-            assert!(promised(&code, &lost(9, [1, 2, 7]), 3));
+            assert!(promised(&code, 0, &lost(9, [0, 1]), 0));
+            assert!(promised(&code, 0, &lost(9, [0, 3]), 0));
+            assert!(!promised(&code, 0, &lost(9, [1, 2, 4]), 1));
+            assert!(promised(&code, 0, &lost(9, [1, 2, 7]), 3));
             // Case 11: messages 0 and 1 are lost, and message 2 is whole.
             let case_11 = lost(9, [0, 1, 2]);
-            assert_eq!([0, 1, 2].map(|t| promised(&code, &case_11, t)), [false, false, true]);
+            assert_eq!([0, 1, 2].map(|t| promised(&code, 0, &case_11, t)), [false, false, true]);
         }
     }
 
@@ -107,8 +119,8 @@ mod tests {
         for (fade, messages) in [([3, 4, 6], 2..8), ([3, 5, 6], 1..7)] {
             let lost = lost(16, fade);
             assert_eq!(both(&code, &lost[1..9]), (true, false));
-            assert!((0..12).all(|t| promised(&code, &lost, t)));
-            let only = (0..12).filter(|&t| promised_in_a_fade(&code, &lost, t));
+            assert!((0..12).all(|t| promised(&code, 0, &lost, t)));
+            let only = (0..12).filter(|&t| promised_in_a_fade(&code, 0, &lost, t));
             assert!(only.eq(messages));
         }
     }
@@ -131,10 +143,10 @@ mod tests {
         // W is 5: between the two fades W − 1 slots are heard, or one less.
         let code = Settings::of_code(4, 4, 1);
         let (apart, nearer) = (lost(16, [0, 2, 3, 8, 10, 11]), lost(16, [0, 2, 3, 7, 9, 10]));
-        assert!((0..12).all(|t| promised(&code, &apart, t)));
+        assert!((0..12).all(|t| promised(&code, 0, &apart, t)));
         // Message t has slots t − 3 to t + 4: of the nearer fades message 2 sees the first alone,
         // and message 7 the second.
-        let kept = (0..12).filter(|&t| promised(&code, &nearer, t));
+        let kept = (0..12).filter(|&t| promised(&code, 0, &nearer, t));
         assert!(kept.eq([0, 1, 2, 7, 8, 9, 10, 11]));
     }
 
@@ -164,5 +176,57 @@ mod tests {
             assert_eq!(some, !fades.is_empty());
             assert!(fades.iter().all(wider));
         }
+    }
+    /// Opening slots from 0 to a few more than a receiver remembers.
+    fn openings(code: &Settings) -> std::ops::Range<u32> {
+        0..(code.k() + code.t()) as u32 + 3
+    }
+
+    #[test]
+    fn slots_before_the_opening_are_losses() {
+        let mut draws = Draws::from(20261129);
+        for code in every_code() {
+            let delay = u32::from(code.delay);
+            for opened_at in openings(&code) {
+                let slots = code.t() + 2;
+                let once_in = 2 + draws.below(8);
+                let lost: Vec<bool> = (0..slots).map(|_| draws.below(once_in) == 0).collect();
+                let from_0 = [&vec![true; opened_at as usize], &lost[..]].concat();
+                for t in opened_at.saturating_sub(delay)..opened_at + 2 {
+                    let late = promised(&code, opened_at, &lost, t);
+                    assert_eq!(late, promised(&code, 0, &from_0, t), "{code:?} {opened_at} {t}");
+                }
+            }
+        }
+    }
+
+    #[test]
+    fn what_is_promised_of_earlier_messages_if_nothing_more_is_lost() {
+        for code in every_code() {
+            let (k, delay, burst) = (code.k() as u32, u32::from(code.delay), code.burst.into());
+            for opened_at in openings(&code).chain([2_000_000_000, 3_999_999_990]) {
+                // The slots missed that message t sees are one run, of at most B.
+                let run = |t: u32| opened_at - (t + 1).saturating_sub(k);
+                let heard = vec![false; code.t()];
+                for t in opened_at.saturating_sub(delay)..opened_at {
+                    let promised = promised(&code, opened_at, &heard, t);
+                    assert_eq!(promised, run(t) <= burst, "{code:?} {opened_at} {t}");
+                }
+            }
+        }
+    }
+
+    #[test]
+    fn how_many_codes_are_promised_the_last_message_before_an_opening() {
+        let last = |code: &Settings, opened_at: u32| {
+            promised(code, opened_at, &vec![false; code.t()], opened_at - 1)
+        };
+        let count = |opened_at: fn(&Settings) -> u32| {
+            every_code().iter().filter(|code| last(code, opened_at(code))).count()
+        };
+        assert_eq!(count(|_| 1), 372);
+        // Here k slots or more are missed, and B is k or more in so many codes.
+        assert_eq!(count(|code| (code.k() + code.t()) as u32), 204);
+        assert_eq!(count(|_| 2_000_000_000), 204);
     }
 }

@@ -1,7 +1,7 @@
 //! "Slots, messages, frames": the 14 bytes of a frame's header, and its body.
 
 use crate::settings::Settings;
-use crate::state::{refuse_if, Refusal, State};
+use crate::state::{refuse_if, Refusal};
 
 /// The mark 54 4F 42 hex.
 pub const MARK: [u8; 3] = [0x54, 0x4F, 0x42];
@@ -30,14 +30,13 @@ pub fn place(settings: &Settings, symbol: usize, lane: usize) -> usize {
     symbol * settings.lanes as usize + lane
 }
 
-/// The frame of the slot due, with this body.
-pub fn of(state: &State, body: &[u8]) -> Vec<u8> {
-    let s = state.settings;
+/// The frame of a slot, with this body.
+pub fn of(s: &Settings, slot: u32, body: &[u8]) -> Vec<u8> {
     let mut frame = Vec::new();
     frame.extend(MARK);
     frame.extend(VERSION.to_be_bytes());
     frame.extend([s.window, s.delay, s.burst, s.scattered, s.lanes]);
-    frame.extend(state.due.to_be_bytes());
+    frame.extend(slot.to_be_bytes());
     frame.extend(body);
     frame
 }

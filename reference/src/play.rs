@@ -3,7 +3,7 @@
 use crate::frame;
 use crate::receiver::{self, Reply};
 use crate::settings::Settings;
-use crate::state::{check_settings, refuse_if, Refusal, State};
+use crate::state::{check_settings, refuse_if, ReceiverState, Refusal};
 
 /// A recording is at most 64 KiB.
 pub const LONGEST: usize = 64 * 1024;
@@ -45,16 +45,16 @@ fn check_recording(recording: &[u8]) -> Result<Settings, Refusal> {
 
 /// A receiver with its rows and its message buffer.
 struct Player {
-    state: State,
+    state: ReceiverState,
     rows: Vec<u8>,
     message: Vec<u8>,
 }
 
 impl Player {
-    /// A receiver opened with accepted settings.
+    /// A receiver opened at slot 0 with accepted settings.
     fn start(settings: Settings) -> Player {
         let mut rows = vec![0; receiver::rows_length(&settings)];
-        let (state, opened) = receiver::open(settings, &mut rows);
+        let (state, opened) = receiver::open(settings, 0, &mut rows);
         assert_eq!(opened, Ok(()));
         Player { state, rows, message: vec![0; frame::message_length(&settings)] }
     }
@@ -79,7 +79,7 @@ impl Player {
 
     fn took(
         &mut self,
-        (state, reply): (State, Result<Reply, Refusal>),
+        (state, reply): (ReceiverState, Result<Reply, Refusal>),
         text: &mut String,
     ) -> Result<(), Refusal> {
         let reported = self.state.due;

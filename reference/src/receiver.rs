@@ -7,11 +7,14 @@ use crate::linear::{answer, Answer};
 use crate::matrix::Matrix;
 use crate::settings::Settings;
 use crate::state::{
-    check_length, check_settings, check_slot_due, refuse_if, row, Refusal, State,
+    check_length, check_opening_slot, check_settings, check_slot_due, refuse_if, row,
+    ReceiverState, Refusal,
 };
 
 /// A row's first byte for received; any other value means lost.
 pub const RECEIVED: u8 = 1;
+/// The first byte of a row of zeros, which is a lost one.
+pub const LOST: u8 = 0;
 
 /// What an accepted report says of message t, when slot t + T is reported.
 #[derive(Clone, Copy, Debug, PartialEq, Eq)]
@@ -41,30 +44,39 @@ fn row_of(settings: &Settings, slot: i64) -> std::ops::Range<usize> {
     row(slot, row_count(settings), row_length(settings))
 }
 
-/// Opening makes the rows received zeros. A refused opening hands back a state of zeros.
-pub fn open(settings: Settings, rows: &mut [u8]) -> (State, Result<(), Refusal>) {
-    if let Err(refusal) = check_opening(&settings, rows) {
-        return (State::ZEROS, Err(refusal));
+/// Opening at a slot (document 02 §3): each of the k + T slots before it has its row lost if it is
+/// 0 or above, and received zeros if it is below 0. At slot 0 it is document 01's opening. A
+/// refused opening hands back a state of zeros.
+pub fn open(
+    settings: Settings,
+    slot: u32,
+    rows: &mut [u8],
+) -> (ReceiverState, Result<(), Refusal>) {
+    if let Err(refusal) = check_opening(&settings, slot, rows) {
+        return (ReceiverState::ZEROS, Err(refusal));
     }
-    for row in rows.chunks_exact_mut(row_length(&settings)) {
+    let opening = i64::from(slot);
+    for earlier in opening - row_count(&settings) as i64..opening {
+        let row = &mut rows[row_of(&settings, earlier)];
         row.fill(0);
-        row[0] = RECEIVED;
+        row[0] = if earlier >= 0 { LOST } else { RECEIVED };
     }
-    (State::opened(settings), Ok(()))
+    (ReceiverState::opened(settings, slot), Ok(()))
 }
 
-fn check_opening(settings: &Settings, rows: &[u8]) -> Result<(), Refusal> {
+fn check_opening(settings: &Settings, slot: u32, rows: &[u8]) -> Result<(), Refusal> {
     check_settings(settings)?;
-    check_length(rows, rows_length(settings))
+    check_length(rows, rows_length(settings))?;
+    check_opening_slot(slot)
 }
 
 /// The slot due was heard; a refused call leaves everything unchanged.
 pub fn report_frame(
-    state: State,
+    state: ReceiverState,
     rows: &mut [u8],
     frame: &[u8],
     message: &mut [u8],
-) -> (State, Result<Reply, Refusal>) {
+) -> (ReceiverState, Result<Reply, Refusal>) {
     if let Err(refusal) = check_frame(&state, rows, frame, message) {
         return (state, Err(refusal));
     }
@@ -77,10 +89,10 @@ pub fn report_frame(
 
 /// The slot due was not heard; a refused call leaves everything unchanged.
 pub fn report_loss(
-    state: State,
+    state: ReceiverState,
     rows: &mut [u8],
     message: &mut [u8],
-) -> (State, Result<Reply, Refusal>) {
+) -> (ReceiverState, Result<Reply, Refusal>) {
     if let Err(refusal) = check_loss(&state, rows, message) {
         return (state, Err(refusal));
     }
@@ -90,7 +102,7 @@ pub fn report_loss(
 }
 
 fn check_frame(
-    state: &State,
+    state: &ReceiverState,
     rows: &[u8],
     frame: &[u8],
     message: &[u8],
@@ -99,21 +111,21 @@ fn check_frame(
     check_length(rows, rows_length(&state.settings))?;
     check_length(frame, frame::length(&state.settings))?;
     check_length(message, message_length(&state.settings))?;
-    check_slot_due(state)?;
+    check_slot_due(state.due)?;
     frame::check_kind(frame, &state.settings)?;
     refuse_if(frame::slot(frame) != state.due, Refusal::NotTheSlotDue)
 }
 
-fn check_loss(state: &State, rows: &[u8], message: &[u8]) -> Result<(), Refusal> {
+fn check_loss(state: &ReceiverState, rows: &[u8], message: &[u8]) -> Result<(), Refusal> {
     check_settings(&state.settings)?;
     check_length(rows, rows_length(&state.settings))?;
     check_length(message, message_length(&state.settings))?;
-    check_slot_due(state)
+    check_slot_due(state.due)
 }
 
 /// The reply to the report of the slot due, already in its row. The buffer gets
 /// message t when whole; zeros for lost, clash and "none yet" (slot below T).
-fn reply(state: &State, rows: &[u8], message: &mut [u8]) -> Reply {
+fn reply(state: &ReceiverState, rows: &[u8], message: &mut [u8]) -> Reply {
     message.fill(0);
     if state.slot() < state.settings.t() as i64 {
         return Reply::NoneYet;
@@ -134,7 +146,7 @@ fn reply(state: &State, rows: &[u8], message: &mut [u8]) -> Reply {
 }
 
 /// For each byte of message t, what the codeword that carries it says of it.
-fn answers(state: &State, rows: &[u8]) -> Vec<Answer> {
+fn answers(state: &ReceiverState, rows: &[u8]) -> Vec<Answer> {
     let settings = &state.settings;
     let matrix = Matrix::of(settings);
     let t = state.slot() - settings.t() as i64;
@@ -150,7 +162,7 @@ fn answers(state: &State, rows: &[u8]) -> Vec<Answer> {
 
 /// The symbols of the codeword starting at a slot, as far as they arrived by the slot due:
 /// symbol p travels in slot start + p, and what arrived is what the lent rows say.
-fn arrived(state: &State, rows: &[u8], start: i64, lane: usize) -> Vec<Option<Byte>> {
+fn arrived(state: &ReceiverState, rows: &[u8], start: i64, lane: usize) -> Vec<Option<Byte>> {
     let settings = &state.settings;
     let symbol = |p: usize| {
         let slot = start + p as i64;

@@ -5,19 +5,28 @@ use crate::patterns::Draws;
 use crate::receiver::{self, Reply};
 use crate::sender;
 use crate::settings::Settings;
-use crate::state::{Refusal, State};
+use crate::state::{ReceiverState, Refusal, SenderState, END};
 
 /// Every (T, B, N), in order.
 const CODES: [(u8, u8, u8); 7] =
     [(1, 1, 1), (3, 2, 2), (3, 3, 2), (2, 2, 1), (8, 8, 1), (15, 15, 15), (15, 1, 1)];
 
 /// Every kind, with L and the start.
-const KINDS: [(Kind, u8, u32); 4] = [
-    (Kind::Fresh, 1, 0),
-    (Kind::Fresh, 64, 0),
-    (Kind::Lent, 1, 0),
-    (Kind::Lent, 3, 3_999_999_970),
-];
+fn kinds(code: &Settings) -> [(Kind, u8, u32); 10] {
+    let remembered = receiver::row_count(code) as u32;
+    [
+        (Kind::Fresh, 1, 0),
+        (Kind::Fresh, 64, 0),
+        (Kind::Lent, 1, 0),
+        (Kind::Lent, 3, 3_999_999_970),
+        (Kind::Late, 2, 1),
+        (Kind::Late, 2, remembered - 1),
+        (Kind::Late, 2, remembered),
+        (Kind::Late, 2, remembered + 1),
+        (Kind::Late, 2, 2_000_000_000),
+        (Kind::Late, 2, 3_999_999_999),
+    ]
+}
 
 /// How many ways there are of breaking settings.
 const WAYS: usize = 8;
@@ -26,6 +35,7 @@ const WAYS: usize = 8;
 enum Kind {
     Fresh,
     Lent,
+    Late,
 }
 
 /// A length that a lent thing has in one call.
@@ -41,15 +51,18 @@ pub fn lines() -> Vec<String> {
     let mut draws = Draws::from(20261116);
     let mut lines = Vec::new();
     for (delay, burst, scattered) in CODES {
-        for (kind, lanes, start) in KINDS {
-            let settings = Settings { lanes, ..Settings::of_code(delay, burst, scattered) };
+        let code = Settings::of_code(delay, burst, scattered);
+        for (kind, lanes, start) in kinds(&code) {
+            let settings = Settings { lanes, ..code };
             lines.push(title(&settings, kind, start));
             let mut scenario = Scenario::drawn(&mut draws, &mut lines, settings);
-            scenario.open_both();
-            if kind == Kind::Lent {
-                scenario.lend(start);
+            scenario.open_both(if kind == Kind::Late { start } else { 0 });
+            match kind {
+                Kind::Fresh => (),
+                Kind::Lent => scenario.lend(start),
+                Kind::Late => scenario.send_before(start),
             }
-            for _ in 0..40 {
+            for _ in 0..if kind == Kind::Late { 20 } else { 40 } {
                 scenario.slot(kind);
             }
         }
@@ -58,7 +71,11 @@ pub fn lines() -> Vec<String> {
 }
 
 fn title(s: &Settings, kind: Kind, start: u32) -> String {
-    let kind = if kind == Kind::Fresh { "fresh" } else { "lent" };
+    let kind = match kind {
+        Kind::Fresh => "fresh",
+        Kind::Lent => "lent",
+        Kind::Late => "late",
+    };
     format!("scenario {} {} {} {} {kind} {start}", s.delay, s.burst, s.scattered, s.lanes)
 }
 
@@ -73,10 +90,17 @@ fn spaced(numbers: &[usize]) -> String {
     numbers.iter().map(|number| format!(" {number}")).collect()
 }
 
-fn text_of_state(state: &State) -> String {
-    let s = &state.settings;
+fn text_of_settings(s: &Settings) -> String {
     let [w, t, b, n, l] = [s.window, s.delay, s.burst, s.scattered, s.lanes];
-    format!("{w} {t} {b} {n} {l} {}", state.due)
+    format!("{w} {t} {b} {n} {l}")
+}
+
+fn text_of_sender(state: &SenderState) -> String {
+    format!("{} {}", text_of_settings(&state.settings), state.due)
+}
+
+fn text_of_receiver(state: &ReceiverState) -> String {
+    format!("{} {} {}", text_of_settings(&state.settings), state.opened_at, state.due)
 }
 
 /// The number of a refusal, or the word for what was accepted.
@@ -126,9 +150,11 @@ fn at_size<A>(thing: &mut Vec<u8>, size: Size, call: impl FnOnce(&mut [u8]) -> A
     }
 }
 
-/// The start of one call: its state, the sizes of the things lent, and the frame reported.
+/// The start of one call: the settings and the slot due of its state, the sizes of the things
+/// lent, and the frame reported.
 struct Call {
-    state: State,
+    settings: Settings,
+    due: u32,
     sizes: [Size; 3],
     frame: Vec<u8>,
 }
@@ -137,8 +163,8 @@ struct Scenario<'a> {
     draws: &'a mut Draws,
     lines: &'a mut Vec<String>,
     settings: Settings,
-    sender: State,
-    receiver: State,
+    sender: SenderState,
+    receiver: ReceiverState,
     sender_rows: Vec<u8>,
     receiver_rows: Vec<u8>,
     frame: Vec<u8>,
@@ -158,8 +184,8 @@ impl<'a> Scenario<'a> {
             draws,
             lines,
             settings,
-            sender: State::ZEROS,
-            receiver: State::ZEROS,
+            sender: SenderState::ZEROS,
+            receiver: ReceiverState::ZEROS,
             sender_rows,
             receiver_rows,
             frame,
@@ -169,43 +195,64 @@ impl<'a> Scenario<'a> {
         }
     }
 
-    /// Step 3: refused openings of each end, and then one that is accepted.
-    fn open_both(&mut self) {
-        for (settings, size) in self.openings() {
-            self.sender = self.open_sender(settings, size);
+    /// Step 3: refused openings of each end, and then one that is accepted, the receiver's at this
+    /// slot.
+    fn open_both(&mut self, slot: u32) {
+        for (settings, size) in self.refused_openings() {
+            self.open_sender(settings, size);
         }
-        for (settings, size) in self.openings() {
-            self.receiver = self.open_receiver(settings, size);
+        self.sender = self.open_sender(self.settings, Size::Exact);
+        for (settings, size) in self.refused_openings() {
+            self.open_receiver(settings, slot, size);
         }
+        self.open_past_the_end();
+        self.receiver = self.open_receiver(self.settings, slot, Size::Exact);
     }
 
-    fn openings(&mut self) -> Vec<(Settings, Size)> {
+    /// The openings that either end refuses.
+    fn refused_openings(&mut self) -> Vec<(Settings, Size)> {
         let settings = self.settings;
         let way = |r| (broken(settings, r), Size::Exact);
         let mut openings: Vec<(Settings, Size)> = (0..WAYS).map(way).collect();
         openings.push((settings, Size::Shorter));
         openings.push((settings, Size::Longer));
         openings.push((broken(settings, self.draws.below(WAYS)), Size::Shorter));
-        openings.push((settings, Size::Exact));
         openings
     }
 
-    fn open_sender(&mut self, settings: Settings, size: Size) -> State {
+    /// Openings of the receiver at slots that are none: with nothing else wrong, with another
+    /// length, and with other settings.
+    fn open_past_the_end(&mut self) {
+        let slot = self.past_the_end();
+        self.open_receiver(self.settings, slot, Size::Exact);
+        let slot = self.past_the_end();
+        self.open_receiver(self.settings, slot, Size::Shorter);
+        let slot = self.past_the_end();
+        let settings = broken(self.settings, self.draws.below(WAYS));
+        self.open_receiver(settings, slot, Size::Exact);
+    }
+
+    fn past_the_end(&mut self) -> u32 {
+        END + self.draws.below(32768) as u32
+    }
+
+    fn open_sender(&mut self, settings: Settings, size: Size) -> SenderState {
         let open = |rows: &mut [u8]| sender::open(settings, rows);
         let (state, opened) = at_size(&mut self.sender_rows, size, open);
-        self.print("open-sender", outcome(opened, |()| "ok"), &state, &[sum(&self.sender_rows)]);
+        let (opened, state_text) = (outcome(opened, |()| "ok"), text_of_sender(&state));
+        self.print("open-sender", opened, state_text, &[sum(&self.sender_rows)]);
         state
     }
 
-    fn open_receiver(&mut self, settings: Settings, size: Size) -> State {
-        let open = |rows: &mut [u8]| receiver::open(settings, rows);
+    fn open_receiver(&mut self, settings: Settings, slot: u32, size: Size) -> ReceiverState {
+        let open = |rows: &mut [u8]| receiver::open(settings, slot, rows);
         let (state, opened) = at_size(&mut self.receiver_rows, size, open);
-        let sums = [sum(&self.receiver_rows)];
-        self.print("open-receiver", outcome(opened, |()| "ok"), &state, &sums);
+        let (opened, state_text) = (outcome(opened, |()| "ok"), text_of_receiver(&state));
+        self.print("open-receiver", opened, state_text, &[sum(&self.receiver_rows)]);
         state
     }
 
-    /// Step 4: rows with a history of their own, and another slot due.
+    /// Step 4: rows with a history of their own, another slot due, and an opening slot above it.
     fn lend(&mut self, start: u32) {
         self.sender_rows = self.draws.bytes(self.sender_rows.len());
         self.receiver_rows = self.draws.bytes(self.receiver_rows.len());
@@ -215,21 +262,32 @@ impl<'a> Scenario<'a> {
         }
         self.sender.due = start;
         self.receiver.due = start;
+        self.receiver.opened_at = start + 7;
+    }
+
+    /// Step 5: what the sender sends before the receiver is opened, as far as it still matters.
+    fn send_before(&mut self, start: u32) {
+        let count = start.min(16);
+        self.sender.due = start - count;
+        for _ in 0..count {
+            self.message = self.draws.bytes(frame::message_length(&self.settings));
+            self.sender = self.send(self.right_send());
+        }
     }
 
     fn set_first_byte(&mut self, row: usize, first: u8) {
         self.receiver_rows[row * receiver::row_length(&self.settings)] = first;
     }
 
-    /// Step 5, once.
+    /// Step 6, once.
     fn slot(&mut self, kind: Kind) {
         self.message = self.draws.bytes(frame::message_length(&self.settings));
         if self.draws.below(8) == 0 {
             let faults = self.draws.below(7) + 1;
-            let call = self.faulty(self.sender, faults, 3);
+            let call = self.faulty(self.right_send(), faults, 3);
             self.send(call);
         }
-        self.sender = self.send(self.right(self.sender));
+        self.sender = self.send(self.right_send());
         if kind == Kind::Lent && self.draws.below(4) == 0 {
             let row = self.draws.below(receiver::row_count(&self.settings));
             let first = [0, 1, 7, 2][self.draws.below(4)];
@@ -263,7 +321,7 @@ impl<'a> Scenario<'a> {
             }
             _ => {
                 let faults = self.draws.below(7) + 1;
-                let call = self.faulty(self.receiver, faults, 2);
+                let call = self.faulty(self.right_report(), faults, 2);
                 self.report_loss(call);
                 self.lost();
             }
@@ -271,44 +329,52 @@ impl<'a> Scenario<'a> {
     }
 
     fn heard(&mut self) {
-        self.receiver = self.report_frame(self.right(self.receiver));
+        self.receiver = self.report_frame(self.right_report());
     }
 
     fn lost(&mut self) {
-        self.receiver = self.report_loss(self.right(self.receiver));
+        self.receiver = self.report_loss(self.right_report());
     }
 
     fn damaged(&mut self) {
-        let mut call = self.right(self.receiver);
+        let mut call = self.right_report();
         let q = self.draws.below(frame::body_length(&self.settings));
         self.change(&mut call.frame, frame::HEADER + q);
         self.receiver = self.report_frame(call);
     }
 
     fn heard_after(&mut self, faults: usize) {
-        let call = self.faulty(self.receiver, faults, 3);
+        let call = self.faulty(self.right_report(), faults, 3);
         self.report_frame(call);
         self.heard();
     }
 
-    /// A call with nothing wrong.
-    fn right(&self, state: State) -> Call {
-        Call { state, sizes: [Size::Exact; 3], frame: self.frame.clone() }
+    /// A send with nothing wrong.
+    fn right_send(&self) -> Call {
+        self.right(self.sender.settings, self.sender.due)
     }
 
-    /// A call with this set of faults, that lends so many things.
-    fn faulty(&mut self, state: State, faults: usize, things: usize) -> Call {
-        let mut call = self.right(state);
+    /// A report with nothing wrong.
+    fn right_report(&self) -> Call {
+        self.right(self.receiver.settings, self.receiver.due)
+    }
+
+    fn right(&self, settings: Settings, due: u32) -> Call {
+        Call { settings, due, sizes: [Size::Exact; 3], frame: self.frame.clone() }
+    }
+
+    /// The call with this set of faults, when it lends so many things.
+    fn faulty(&mut self, mut call: Call, faults: usize, things: usize) -> Call {
         let has = |fault: usize| faults & fault != 0;
         if has(1) {
-            call.state.settings = broken(state.settings, self.draws.below(WAYS));
+            call.settings = broken(call.settings, self.draws.below(WAYS));
         }
         if has(2) {
             let h = self.draws.below(2 * things);
             call.sizes[h / 2] = if h.is_multiple_of(2) { Size::Shorter } else { Size::Longer };
         }
         if has(4) {
-            call.state.due = State::END + self.draws.below(32768) as u32;
+            call.due = self.past_the_end();
         }
         for (fault, from, count) in [(8, 0, 5), (16, 5, 5), (32, 10, 4)] {
             if has(fault) {
@@ -323,26 +389,28 @@ impl<'a> Scenario<'a> {
         frame[place] ^= (self.draws.below(255) + 1) as u8;
     }
 
-    fn send(&mut self, call: Call) -> State {
-        let Call { state, sizes, .. } = call;
+    fn send(&mut self, call: Call) -> SenderState {
+        let Call { settings, due, sizes, .. } = call;
+        let start = SenderState { settings, due };
         let (rows, message, frame) = (&mut self.sender_rows, &mut self.message, &mut self.frame);
         let (state, sent) = at_size(rows, sizes[0], |rows| {
             at_size(message, sizes[1], |message| {
-                at_size(frame, sizes[2], |frame| sender::send(state, rows, message, frame))
+                at_size(frame, sizes[2], |frame| sender::send(start, rows, message, frame))
             })
         });
         let sums = [sum(&self.frame), sum(&self.sender_rows)];
-        self.print("send", outcome(sent, |()| "ok"), &state, &sums);
+        self.print("send", outcome(sent, |()| "ok"), text_of_sender(&state), &sums);
         state
     }
 
-    fn report_frame(&mut self, call: Call) -> State {
-        let Call { state, sizes, mut frame } = call;
+    fn report_frame(&mut self, call: Call) -> ReceiverState {
+        let Call { settings, due, sizes, mut frame } = call;
+        let start = ReceiverState { settings, due, ..self.receiver };
         let (rows, buffer) = (&mut self.receiver_rows, &mut self.message_buffer);
         let (state, reply) = at_size(rows, sizes[0], |rows| {
             at_size(&mut frame, sizes[1], |frame| {
                 at_size(buffer, sizes[2], |buffer| {
-                    receiver::report_frame(state, rows, frame, buffer)
+                    receiver::report_frame(start, rows, frame, buffer)
                 })
             })
         });
@@ -350,23 +418,24 @@ impl<'a> Scenario<'a> {
         state
     }
 
-    fn report_loss(&mut self, call: Call) -> State {
-        let Call { state, sizes, .. } = call;
+    fn report_loss(&mut self, call: Call) -> ReceiverState {
+        let Call { settings, due, sizes, .. } = call;
+        let start = ReceiverState { settings, due, ..self.receiver };
         let (rows, buffer) = (&mut self.receiver_rows, &mut self.message_buffer);
         let (state, reply) = at_size(rows, sizes[0], |rows| {
-            at_size(buffer, sizes[1], |buffer| receiver::report_loss(state, rows, buffer))
+            at_size(buffer, sizes[1], |buffer| receiver::report_loss(start, rows, buffer))
         });
         self.print_report("loss", reply, &state);
         state
     }
 
-    fn print_report(&mut self, call: &str, reply: Result<Reply, Refusal>, state: &State) {
+    fn print_report(&mut self, call: &str, reply: Result<Reply, Refusal>, state: &ReceiverState) {
         let sums = [sum(&self.message_buffer), sum(&self.receiver_rows)];
-        self.print(call, outcome(reply, word_of_reply), state, &sums);
+        self.print(call, outcome(reply, word_of_reply), text_of_receiver(state), &sums);
     }
 
-    fn print(&mut self, call: &str, outcome: String, state: &State, sums: &[usize]) {
-        self.lines.push(format!("{call} {outcome} {}{}", text_of_state(state), spaced(sums)));
+    fn print(&mut self, call: &str, outcome: String, state: String, sums: &[usize]) {
+        self.lines.push(format!("{call} {outcome} {state}{}", spaced(sums)));
     }
 }
 

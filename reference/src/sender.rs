@@ -5,7 +5,7 @@ use crate::frame::{self, body_length, message_length, place};
 use crate::linear::codeword;
 use crate::matrix::Matrix;
 use crate::settings::Settings;
-use crate::state::{check_length, check_settings, check_slot_due, row, Refusal, State};
+use crate::state::{check_length, check_settings, check_slot_due, row, Refusal, SenderState};
 
 /// n − 1 rows of k × L bytes.
 pub fn rows_length(settings: &Settings) -> usize {
@@ -18,12 +18,12 @@ fn row_of(settings: &Settings, slot: i64) -> std::ops::Range<usize> {
 }
 
 /// Opening zeroes the sender's rows. A refused opening hands back a state of zeros.
-pub fn open(settings: Settings, rows: &mut [u8]) -> (State, Result<(), Refusal>) {
+pub fn open(settings: Settings, rows: &mut [u8]) -> (SenderState, Result<(), Refusal>) {
     if let Err(refusal) = check_opening(&settings, rows) {
-        return (State::ZEROS, Err(refusal));
+        return (SenderState::ZEROS, Err(refusal));
     }
     rows.fill(0);
-    (State::opened(settings), Ok(()))
+    (SenderState::opened(settings), Ok(()))
 }
 
 fn check_opening(settings: &Settings, rows: &[u8]) -> Result<(), Refusal> {
@@ -33,23 +33,23 @@ fn check_opening(settings: &Settings, rows: &[u8]) -> Result<(), Refusal> {
 
 /// Writes the frame of the slot due; a refused call leaves everything unchanged.
 pub fn send(
-    state: State,
+    state: SenderState,
     rows: &mut [u8],
     message: &[u8],
     frame: &mut [u8],
-) -> (State, Result<(), Refusal>) {
+) -> (SenderState, Result<(), Refusal>) {
     if let Err(refusal) = check_sending(&state, rows, message, frame) {
         return (state, Err(refusal));
     }
     let body = body(&state, rows, message);
-    frame.copy_from_slice(&frame::of(&state, &body));
+    frame.copy_from_slice(&frame::of(&state.settings, state.due, &body));
     // Message t is written over its row, which held message t − n + 1.
     rows[row_of(&state.settings, state.slot())].copy_from_slice(message);
     (state.moved_on(), Ok(()))
 }
 
 fn check_sending(
-    state: &State,
+    state: &SenderState,
     rows: &[u8],
     message: &[u8],
     frame: &[u8],
@@ -58,11 +58,11 @@ fn check_sending(
     check_length(rows, rows_length(&state.settings))?;
     check_length(message, message_length(&state.settings))?;
     check_length(frame, frame::length(&state.settings))?;
-    check_slot_due(state)
+    check_slot_due(state.due)
 }
 
 /// Symbol p of lane v at body byte p × L + v.
-fn body(state: &State, rows: &[u8], message: &[u8]) -> Vec<u8> {
+fn body(state: &SenderState, rows: &[u8], message: &[u8]) -> Vec<u8> {
     let settings = &state.settings;
     let matrix = Matrix::of(settings);
     let mut body = vec![0; body_length(settings)];

@@ -11,6 +11,9 @@ pub struct Settings {
 }
 
 impl Settings {
+    /// The settings in a state of zeros, which are not accepted.
+    pub const ZEROS: Settings = Settings { window: 0, delay: 0, burst: 0, scattered: 0, lanes: 0 };
+
     /// The settings of a code alone: the narrowest window and one lane.
     pub fn of_code(delay: u8, burst: u8, scattered: u8) -> Settings {
         Settings { window: delay.saturating_add(1), delay, burst, scattered, lanes: 1 }

@@ -1,32 +1,29 @@
-//! "Why a call says no": the state of either end, the causes, and the checks both ends share.
+//! "Why a call says no": the states of both ends, the causes, and the checks both ends share.
 
 use crate::settings::Settings;
 
-/// The settings and the slot due.
+/// Slots are numbered 0 to 3,999,999,999.
+pub const END: u32 = 4_000_000_000;
+
+/// The sender's state: the settings and the slot due.
 #[derive(Clone, Copy, Debug, PartialEq, Eq)]
-pub struct State {
+pub struct SenderState {
     pub settings: Settings,
     pub due: u32,
 }
 
-impl State {
-    /// Slots are numbered 0 to 3,999,999,999.
-    pub const END: u32 = 4_000_000_000;
-
+impl SenderState {
     /// What a refused opening hands back.
-    pub const ZEROS: State = State {
-        settings: Settings { window: 0, delay: 0, burst: 0, scattered: 0, lanes: 0 },
-        due: 0,
-    };
+    pub const ZEROS: SenderState = SenderState { settings: Settings::ZEROS, due: 0 };
 
     /// The state after an accepted opening.
-    pub fn opened(settings: Settings) -> State {
-        State { settings, due: 0 }
+    pub fn opened(settings: Settings) -> SenderState {
+        SenderState { settings, due: 0 }
     }
 
-    /// Each accepted report moves the slot due on by one, and so does each accepted send.
-    pub fn moved_on(self) -> State {
-        State { due: self.due + 1, ..self }
+    /// Each accepted send moves the slot due on by one.
+    pub fn moved_on(self) -> SenderState {
+        SenderState { due: self.due + 1, ..self }
     }
 
     /// The slot due, for counting back to slots before 0.
@@ -35,7 +32,37 @@ impl State {
     }
 }
 
-/// The causes, in the order of checking.
+/// The receiver's state: the settings, the opening slot (document 02 §3) and the slot due.
+/// A call carries the opening slot along and never asks what it is.
+#[derive(Clone, Copy, Debug, PartialEq, Eq)]
+pub struct ReceiverState {
+    pub settings: Settings,
+    pub opened_at: u32,
+    pub due: u32,
+}
+
+impl ReceiverState {
+    /// What a refused opening hands back.
+    pub const ZEROS: ReceiverState =
+        ReceiverState { settings: Settings::ZEROS, opened_at: 0, due: 0 };
+
+    /// The state after an accepted opening: the slot due starts at the opening slot.
+    pub fn opened(settings: Settings, slot: u32) -> ReceiverState {
+        ReceiverState { settings, opened_at: slot, due: slot }
+    }
+
+    /// Each accepted report moves the slot due on by one.
+    pub fn moved_on(self) -> ReceiverState {
+        ReceiverState { due: self.due + 1, ..self }
+    }
+
+    /// The slot due, for counting back to slots before 0.
+    pub fn slot(&self) -> i64 {
+        i64::from(self.due)
+    }
+}
+
+/// The causes, in the order of checking: only an opening meets the last, behind the first two.
 #[derive(Clone, Copy, Debug, PartialEq, Eq)]
 pub enum Refusal {
     SettingsNotAccepted,
@@ -44,6 +71,7 @@ pub enum Refusal {
     MarkOrVersion,
     OtherSettings,
     NotTheSlotDue,
+    NoSlotToOpenAt,
 }
 
 impl Refusal {
@@ -56,6 +84,7 @@ impl Refusal {
             Refusal::MarkOrVersion => 4,
             Refusal::OtherSettings => 5,
             Refusal::NotTheSlotDue => 6,
+            Refusal::NoSlotToOpenAt => 7,
         }
     }
 }
@@ -76,8 +105,13 @@ pub fn check_length(lent: &[u8], exact: usize) -> Result<(), Refusal> {
 }
 
 /// Cause 3.
-pub fn check_slot_due(state: &State) -> Result<(), Refusal> {
-    refuse_if(state.due >= State::END, Refusal::NoSlotLeft)
+pub fn check_slot_due(due: u32) -> Result<(), Refusal> {
+    refuse_if(due >= END, Refusal::NoSlotLeft)
+}
+
+/// Cause 7, of document 02 §3.
+pub fn check_opening_slot(slot: u32) -> Result<(), Refusal> {
+    refuse_if(slot >= END, Refusal::NoSlotToOpenAt)
 }
 
 /// The bytes of the row of a slot: row slot mod count, the remainder from 0 up.

@@ -6,7 +6,7 @@ use reference::frame;
 use reference::receiver::{self, Reply};
 use reference::sender;
 use reference::settings::Settings;
-use reference::state::{Refusal, State};
+use reference::state::{ReceiverState, Refusal, SenderState, END};
 
 /// Bytes that no call of these tests writes, to see that a refused one changed nothing.
 const FILL: u8 = 0xA5;
@@ -18,7 +18,7 @@ fn card() -> Settings {
 
 /// A sender with its rows.
 struct Sender {
-    state: State,
+    state: SenderState,
     rows: Vec<u8>,
 }
 
@@ -26,7 +26,7 @@ impl Sender {
     fn open(settings: Settings) -> Sender {
         let mut rows = vec![FILL; sender::rows_length(&settings)];
         let (state, opened) = sender::open(settings, &mut rows);
-        assert_eq!((state, opened), (State { settings, due: 0 }, Ok(())));
+        assert_eq!((state, opened), (SenderState { settings, due: 0 }, Ok(())));
         assert!(rows.iter().all(|&byte| byte == 0));
         Sender { state, rows }
     }
@@ -41,17 +41,18 @@ impl Sender {
     }
 }
 
-/// A receiver with its rows; a report gives the reply and the message buffer.
+/// A receiver opened at slot 0, with its rows; a report gives the reply and the message buffer.
 struct Receiver {
-    state: State,
+    state: ReceiverState,
     rows: Vec<u8>,
 }
 
 impl Receiver {
     fn open(settings: Settings) -> Receiver {
         let mut rows = vec![FILL; receiver::rows_length(&settings)];
-        let (state, opened) = receiver::open(settings, &mut rows);
-        assert_eq!((state, opened), (State { settings, due: 0 }, Ok(())));
+        let (state, opened) = receiver::open(settings, 0, &mut rows);
+        let at_0 = ReceiverState { settings, opened_at: 0, due: 0 };
+        assert_eq!((state, opened), (at_0, Ok(())));
         for row in rows.chunks(receiver::row_length(&settings)) {
             assert!(row[0] == 1 && row[1..].iter().all(|&byte| byte == 0));
         }
@@ -203,29 +204,24 @@ fn refused_settings() -> Settings {
 }
 
 #[test]
-fn openings_are_refused_with_a_state_of_zeros() {
-    type Opening = fn(Settings, &mut [u8]) -> (State, Result<(), Refusal>);
-    let ends: [(Opening, usize); 2] = [
-        (sender::open, sender::rows_length(&card())),
-        (receiver::open, receiver::rows_length(&card())),
-    ];
-    for (open, exact) in ends {
-        for (settings, length, number) in [
-            (refused_settings(), exact, 1),
-            (refused_settings(), exact + 1, 1),
-            (card(), exact - 1, 2),
-            (card(), exact + 1, 2),
-        ] {
-            let mut rows = vec![FILL; length];
-            let (state, opened) = open(settings, &mut rows);
-            assert_eq!((state, opened.map_err(Refusal::number)), (State::ZEROS, Err(number)));
-            assert_eq!(rows, vec![FILL; length]);
-        }
+fn a_senders_openings_are_refused_with_a_state_of_zeros() {
+    let zeros = SenderState { settings: Settings::ZEROS, due: 0 };
+    let exact = sender::rows_length(&card());
+    for (settings, length, number) in [
+        (refused_settings(), exact, 1),
+        (refused_settings(), exact + 1, 1),
+        (card(), exact - 1, 2),
+        (card(), exact + 1, 2),
+    ] {
+        let mut rows = vec![FILL; length];
+        let (state, opened) = sender::open(settings, &mut rows);
+        assert_eq!((state, opened.map_err(Refusal::number)), (zeros, Err(number)));
+        assert_eq!(rows, vec![FILL; length]);
     }
 }
 
 /// The number with which a send is refused, nothing having changed.
-fn refused_send(state: State, lengths: [usize; 3]) -> u8 {
+fn refused_send(state: SenderState, lengths: [usize; 3]) -> u8 {
     let [mut rows, message, mut frame] = lengths.map(|length| vec![FILL; length]);
     let (after, sent) = sender::send(state, &mut rows, &message, &mut frame);
     assert_eq!((after, [rows, message, frame]), (state, lengths.map(|length| vec![FILL; length])));
@@ -234,10 +230,10 @@ fn refused_send(state: State, lengths: [usize; 3]) -> u8 {
 
 #[test]
 fn sends_are_refused() {
-    let open = State { settings: card(), due: 0 };
+    let open = SenderState { settings: card(), due: 0 };
     let exact = [6, 2, 18];
-    let ended = State { due: 4_000_000_000, ..open };
-    assert_eq!(refused_send(State { settings: refused_settings(), ..ended }, [0; 3]), 1);
+    let ended = SenderState { due: 4_000_000_000, ..open };
+    assert_eq!(refused_send(SenderState { settings: refused_settings(), ..ended }, [0; 3]), 1);
     for thing in 0..3 {
         let mut lengths = exact;
         lengths[thing] += 1;
@@ -246,11 +242,11 @@ fn sends_are_refused() {
         assert_eq!(refused_send(ended, lengths), 2);
     }
     assert_eq!(refused_send(ended, exact), 3);
-    assert_eq!(refused_send(State { due: u32::MAX, ..open }, exact), 3);
+    assert_eq!(refused_send(SenderState { due: u32::MAX, ..open }, exact), 3);
 }
 
 /// The number with which a report is refused, nothing having changed.
-fn refused_report(state: State, rows: usize, heard: Option<&[u8]>, message: usize) -> u8 {
+fn refused_report(state: ReceiverState, rows: usize, heard: Option<&[u8]>, message: usize) -> u8 {
     let [mut rows, mut message] = [rows, message].map(|length| vec![FILL; length]);
     let before = (state, rows.clone(), message.clone());
     let (after, reply) = match heard {
@@ -263,8 +259,8 @@ fn refused_report(state: State, rows: usize, heard: Option<&[u8]>, message: usiz
 
 #[test]
 fn loss_reports_are_refused() {
-    let ended = State { settings: card(), due: 4_000_000_000 };
-    let bad = State { settings: refused_settings(), ..ended };
+    let ended = ReceiverState { settings: card(), opened_at: 0, due: 4_000_000_000 };
+    let bad = ReceiverState { settings: refused_settings(), ..ended };
     assert_eq!(refused_report(bad, 0, None, 0), 1);
     for (rows, message) in [(24, 2), (26, 2), (25, 1), (25, 3)] {
         assert_eq!(refused_report(ended, rows, None, message), 2);
@@ -274,9 +270,9 @@ fn loss_reports_are_refused() {
 
 #[test]
 fn frame_reports_are_refused_for_the_first_cause() {
-    let open = State { settings: card(), due: 0 };
-    let ended = State { due: 4_000_000_000, ..open };
-    let bad = State { settings: refused_settings(), ..ended };
+    let open = ReceiverState { settings: card(), opened_at: 0, due: 0 };
+    let ended = ReceiverState { due: 4_000_000_000, ..open };
+    let bad = ReceiverState { settings: refused_settings(), ..ended };
     // Every later cause holds as well, and the frame loses them one by one.
     let mut frame = frames_of_case_9(2).remove(1);
     frame[2] += 1;
@@ -303,7 +299,7 @@ fn frame_reports_are_refused_for_the_first_cause() {
         frame[place] -= 1;
     }
     assert_eq!(refused_report(open, 25, Some(&frame), 2), 6);
-    assert_eq!(refused_report(State { due: 2, ..open }, 25, Some(&frame), 2), 6);
+    assert_eq!(refused_report(ReceiverState { due: 2, ..open }, 25, Some(&frame), 2), 6);
 }
 
 #[test]
@@ -314,7 +310,7 @@ fn the_last_slot_is_accepted_and_no_slot_follows_it() {
     for sent in [[5, 6], [7, 8], [9, 10], [11, 12]] {
         let frame = sender.send(&sent);
         let (reply, message) = receiver.report(Some(&frame));
-        if receiver.state.due == State::END {
+        if receiver.state.due == END {
             assert_eq!(frame[10..14], 3_999_999_999_u32.to_be_bytes());
             assert_eq!((reply, message), whole([5, 6]));
         }

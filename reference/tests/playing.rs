@@ -6,7 +6,6 @@ use reference::broadcast;
 use reference::frame;
 use reference::play::transcript;
 use reference::settings::Settings;
-use reference::state::State;
 
 fn play(recording: &[u8]) -> String {
     String::from_utf8(transcript(recording)).expect("text")
@@ -21,7 +20,7 @@ fn frame_of_case_9(slot: u32) -> Vec<u8> {
         3 => [0, 0, 0, 0x18],
         _ => [0, 0, 0, 0],
     };
-    frame::of(&State { settings: Settings::of_code(3, 2, 2), due: slot }, &body)
+    frame::of(&Settings::of_code(3, 2, 2), slot, &body)
 }
 
 fn recording(slots: impl IntoIterator<Item = u32>) -> Vec<u8> {
@@ -92,7 +91,7 @@ fn short_and_long_recordings_stop_with_2() {
 fn a_recording_of_64_kib_is_played() {
     // (1,1,1) with L = 1: frames of 16 bytes.
     let settings = Settings::of_code(1, 1, 1);
-    let frames = (0..4096).flat_map(|due| frame::of(&State { settings, due }, &[0, 0]));
+    let frames = (0..4096).flat_map(|slot| frame::of(&settings, slot, &[0, 0]));
     let bytes: Vec<u8> = frames.collect();
     assert_eq!(bytes.len(), 65536);
     let expected: String = (0..4095).map(|message| format!("{message} whole 00\n")).collect();

@@ -76,9 +76,9 @@ fn the_fades_of_the_example_are_fair_by_the_wider_rule_only() {
     let frames = recording.chunks_exact(frame::length(&settings));
     let heard: Vec<usize> = frames.map(|one| frame::slot(one) as usize).collect();
     let lost: Vec<bool> = (0..30).map(|slot| !heard.contains(&slot)).collect();
-    assert!((0..24).all(|t| promised(&settings, &lost, t)));
+    assert!((0..24).all(|t| promised(&settings, 0, &lost, t)));
     // Only messages 0, 1, 2 and 13 have no slots on both sides of a frame heard in a fade.
-    let wider = (0..24).filter(|&t| promised_in_a_fade(&settings, &lost, t));
+    let wider = (0..24).filter(|&t| promised_in_a_fade(&settings, 0, &lost, t));
     assert!(wider.eq((3..13).chain(14..24)));
 }
 

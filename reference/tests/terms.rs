@@ -1,5 +1,6 @@
 //! Demand 3 under the wider rule of document 02, §1: every loss pattern of ten slots for some
-//! small codes, and for every code drawn patterns with frames heard inside a fade.
+//! small codes, and for every code drawn patterns with frames heard inside a fade. The same for
+//! receivers opened at any slot, as document 02, §3 has it.
 
 #![forbid(unsafe_code)]
 
@@ -7,50 +8,88 @@ use reference::broadcast::{self, Frames};
 use reference::fair::{fades, fair, promised, promised_in_a_fade};
 use reference::frame::message_length;
 use reference::patterns::Draws;
-use reference::receiver::{self, Reply};
+use reference::receiver::{self, row_count, Reply};
 use reference::settings::{every_code, Settings};
+use reference::state::{ReceiverState, END};
 
 const SLOTS: usize = 10;
 
-/// Drawn messages and the sender's frames for them.
+/// Drawn messages from a slot on, and the sender's frames for them.
 struct Broadcast {
     code: Settings,
+    first: u32,
     messages: Vec<Vec<u8>>,
     frames: Frames,
 }
 
+/// How many messages are promised, how many of them by the wider rule only, and how many are of
+/// slots before the opening.
+#[derive(Clone, Copy, Debug, Default)]
+struct Met {
+    promised: usize,
+    wider: usize,
+    before: usize,
+}
+
+impl Met {
+    fn and(self, other: Met) -> Met {
+        Met {
+            promised: self.promised + other.promised,
+            wider: self.wider + other.wider,
+            before: self.before + other.before,
+        }
+    }
+}
+
 impl Broadcast {
-    fn drawn(draws: &mut Draws, code: Settings, slots: usize) -> Broadcast {
+    fn drawn(draws: &mut Draws, code: Settings, first: u32, slots: usize) -> Broadcast {
         let length = message_length(&code);
         let messages: Vec<Vec<u8>> = (0..slots).map(|_| draws.bytes(length)).collect();
-        let frames = broadcast::of(code, &messages);
-        Broadcast { code, messages, frames }
+        let frames = broadcast::from(code, first, &messages);
+        Broadcast { code, first, messages, frames }
     }
 
-    /// Plays one pattern: how many messages are promised, and how many by the wider rule only.
-    /// Each of them must be whole, as sent.
-    fn promised(&self, lost: &[bool]) -> [usize; 2] {
+    /// The broadcast that a receiver opened at a slot hears so many slots of: it begins k + T
+    /// slots earlier, so that every message the receiver is told of is a drawn one.
+    fn around(draws: &mut Draws, code: Settings, opened_at: u32, slots: usize) -> Broadcast {
+        let earlier = opened_at.min(row_count(&code) as u32);
+        Broadcast::drawn(draws, code, opened_at - earlier, earlier as usize + slots)
+    }
+
+    /// What was sent in a slot: the message and its frame.
+    fn sent(&self, slot: u32) -> (&[u8], &[u8]) {
+        let place = (slot - self.first) as usize;
+        (&self.messages[place], &self.frames[place])
+    }
+
+    /// Plays one pattern to a receiver opened at a slot. Each promised message must be whole, as
+    /// sent.
+    fn promised(&self, opened_at: u32, lost: &[bool]) -> Met {
         let code = self.code;
         let mut rows = vec![9; receiver::rows_length(&code)];
-        let (mut state, _) = receiver::open(code, &mut rows);
+        let (mut state, _) = receiver::open(code, opened_at, &mut rows);
         let mut buffer = vec![9; message_length(&code)];
-        let mut met = [0; 2];
-        for (slot, frame) in self.frames.iter().enumerate() {
+        let mut met = Met::default();
+        for (slot, &is_lost) in (opened_at..).zip(lost) {
             let reply;
-            (state, reply) = if lost[slot] {
+            (state, reply) = if is_lost {
                 receiver::report_loss(state, &mut rows, &mut buffer)
             } else {
-                receiver::report_frame(state, &mut rows, frame, &mut buffer)
+                receiver::report_frame(state, &mut rows, self.sent(slot).1, &mut buffer)
             };
             // The sender's own frames never clash.
             assert_ne!(reply, Ok(Reply::Clash));
-            if slot >= code.t() && promised(&code, lost, slot - code.t()) {
-                let t = slot - code.t();
-                assert_eq!((reply, &buffer), (Ok(Reply::Whole), &self.messages[t]), "{code:?}");
-                met[0] += 1;
-                met[1] += usize::from(promised_in_a_fade(&code, lost, t));
+            let due = slot.checked_sub(code.delay.into());
+            if let Some(t) = due.filter(|&t| promised(&code, opened_at, lost, t)) {
+                let whole = (reply, &buffer[..]) == (Ok(Reply::Whole), self.sent(t).0);
+                assert!(whole, "{code:?} {opened_at} {lost:?} {t}");
+                met.promised += 1;
+                met.wider += usize::from(promised_in_a_fade(&code, opened_at, lost, t));
+                met.before += usize::from(t < opened_at);
             }
         }
+        let due = opened_at + lost.len() as u32;
+        assert_eq!(state, ReceiverState { settings: code, opened_at, due });
         met
     }
 }
@@ -67,14 +106,14 @@ fn every_pattern_of_ten_slots() {
         (Settings::of_code(4, 4, 2), true),
         (Settings { window: 7, ..Settings::of_code(5, 4, 1) }, true),
     ] {
-        let sent = Broadcast::drawn(&mut draws, code, SLOTS);
-        let mut met = [0; 2];
+        let sent = Broadcast::drawn(&mut draws, code, 0, SLOTS);
+        let mut met = Met::default();
         for bits in 0..1u32 << SLOTS {
             let lost: Vec<bool> = (0..SLOTS).map(|slot| bits >> slot & 1 == 1).collect();
-            let of_pattern = sent.promised(&lost);
-            met = [met[0] + of_pattern[0], met[1] + of_pattern[1]];
+            met = met.and(sent.promised(0, &lost));
         }
-        assert!(met[0] > 500 && (met[1] > 50) == wider, "{code:?} {met:?}");
+        assert!(met.promised > 500 && (met.wider > 50) == wider, "{code:?} {met:?}");
+        assert_eq!(met.before, 0);
     }
 }
 
@@ -113,10 +152,127 @@ fn frames_heard_inside_fades_of_every_code() {
         }
         for drawn in [two_fades, fade_and_losses] {
             let lost = drawn(&mut draws, &code, &fades);
-            let [all, wider] = Broadcast::drawn(&mut draws, code, lost.len()).promised(&lost);
-            assert!(all == lost.len() - code.t() && wider > 0, "{code:?} {lost:?}");
+            let met = Broadcast::drawn(&mut draws, code, 0, lost.len()).promised(0, &lost);
+            let all = met.promised == lost.len() - code.t();
+            assert!(all && met.wider > 0, "{code:?} {lost:?}");
         }
         codes += 1;
     }
     assert_eq!(codes, every_code().iter().filter(|code| code.scattered + 2 <= code.burst).count());
+}
+
+#[test]
+fn every_pattern_behind_every_opening_of_small_codes() {
+    let mut draws = Draws::from(20261126);
+    for code in [
+        Settings::of_code(1, 1, 1),
+        Settings::of_code(2, 2, 1),
+        Settings::of_code(3, 2, 2),
+        Settings::of_code(3, 3, 1),
+        Settings::of_code(4, 2, 1),
+    ] {
+        let mut met = Met::default();
+        for opened_at in 1..=row_count(&code) as u32 + 1 {
+            let sent = Broadcast::around(&mut draws, code, opened_at, 8);
+            for bits in 0..1u32 << 8 {
+                let lost: Vec<bool> = (0..8).map(|slot| bits >> slot & 1 == 1).collect();
+                met = met.and(sent.promised(opened_at, &lost));
+            }
+        }
+        assert!(met.before > 50 && met.promised > met.before, "{code:?} {met:?}");
+    }
+}
+
+/// The slots at which a receiver is opened, for each code.
+fn openings(draws: &mut Draws, code: &Settings) -> [u32; 7] {
+    let remembered = row_count(code) as u32;
+    let large = 100_000 * (1 + draws.below(32768)) as u32;
+    [0, 1, remembered - 1, remembered, remembered + 1, large, END - 1]
+}
+
+/// As many losses as leave the last message before the opening promised, tried in a drawn order.
+fn sparing(draws: &mut Draws, code: &Settings, opened_at: u32, slots: usize) -> Vec<bool> {
+    let mut lost = vec![false; slots];
+    let Some(t) = opened_at.checked_sub(1).filter(|_| slots >= code.t()) else {
+        return lost;
+    };
+    let first = draws.below(code.t());
+    for slot in (0..code.t()).map(|step| (first + step) % code.t()) {
+        lost[slot] = true;
+        lost[slot] = promised(code, opened_at, &lost, t);
+    }
+    lost
+}
+
+/// Losses that are fair among themselves, whatever was missed before the opening.
+fn fair_losses(draws: &mut Draws, code: &Settings, slots: usize) -> Vec<bool> {
+    let window = usize::from(code.window);
+    let mut lost = vec![false; slots];
+    for slot in 0..slots {
+        lost[slot] = draws.below(2) == 0;
+        lost[slot] &= fair(code, &lost[(slot + 1).saturating_sub(window)..=slot]);
+    }
+    lost
+}
+
+/// The losses behind one opening: none, those that spare a message, and fair or any ones.
+fn behind_opening(draws: &mut Draws, code: &Settings, at: u32, slots: usize) -> [Vec<bool>; 3] {
+    let third = match draws.below(2) {
+        0 => fair_losses(draws, code, slots),
+        _ => (0..slots).map(|_| draws.below(3) == 0).collect(),
+    };
+    [vec![false; slots], sparing(draws, code, at, slots), third]
+}
+
+#[test]
+fn messages_from_before_the_opening_of_every_code() {
+    let mut draws = Draws::from(20261127);
+    let mut codes = [0; 3];
+    for code in every_code() {
+        // A message from before was promised: with nothing lost behind the opening, with losses
+        // there before the last such message is due, and with no row that was left received.
+        let mut seen = [false; 3];
+        for opened_at in openings(&mut draws, &code) {
+            let slots = (code.t() + 2).min((END - opened_at) as usize);
+            let sent = Broadcast::around(&mut draws, code, opened_at, slots);
+            for lost in behind_opening(&mut draws, &code, opened_at, slots) {
+                let before = sent.promised(opened_at, &lost).before > 0;
+                seen[0] |= before && !lost.contains(&true);
+                seen[1] |= before && lost.iter().take(code.t()).any(|lost| *lost);
+                seen[2] |= before && opened_at >= row_count(&code) as u32;
+            }
+        }
+        codes = [0, 1, 2].map(|kind| codes[kind] + usize::from(seen[kind]));
+    }
+    // An opening at slot 1 misses slot 0 alone: message 0 is promised by every code, and with a
+    // second loss where B is 2 or more. Behind a later opening k slots or more are missed.
+    let count = |holds: fn(&&Settings) -> bool| every_code().iter().filter(holds).count();
+    assert_eq!(codes, [372, 357, 204]);
+    assert_eq!(codes[1], count(|code| code.burst >= 2));
+    assert_eq!(codes[2], count(|code| code.k() <= code.burst.into()));
+}
+
+#[test]
+fn slots_before_the_opening_do_not_count_as_heard() {
+    let mut draws = Draws::from(20261128);
+    let mut codes = 0;
+    for code in every_code() {
+        let (opened_at, remembered) = (2_000_000_000, row_count(&code));
+        let sent = Broadcast::around(&mut draws, code, opened_at, 1);
+        let mut rows = vec![9; receiver::rows_length(&code)];
+        let (state, _) = receiver::open(code, opened_at, &mut rows);
+        let mut buffer = vec![9; message_length(&code)];
+        let heard = sent.sent(opened_at).1;
+        let (_, reply) = receiver::report_frame(state, &mut rows, heard, &mut buffer);
+        let t = opened_at - u32::from(code.delay);
+        // If they did, the message would be promised as it is to a receiver that heard them.
+        let all_heard = vec![false; remembered + 1];
+        assert!(promised(&code, opened_at - remembered as u32, &all_heard, t));
+        if reply == Ok(Reply::Lost) {
+            assert!(!promised(&code, opened_at, &[false], t));
+            codes += 1;
+        }
+    }
+    // All but those of which one frame tells a message T slots old.
+    assert_eq!(codes, 372 - 22);
 }

@@ -1,7 +1,7 @@
 //! The receiver but for its sums and its eliminations.
 
 use super::reply;
-use super::shape::{due_in_range, exact, opened, set_due, settings, Settings, Shape, State, HEADER};
+use super::shape::{due_in_range, exact, opened, set_due, settings, Settings, Shape, State, HEADER, STATE_LEN};
 
 /// The length of a receiver's rows, or 0 for settings that are not accepted.
 pub fn receiver_len(settings: &Settings) -> usize {
@@ -25,7 +25,7 @@ fn rows_len(shape: &Shape) -> usize {
 
 /// Opens a receiver.
 pub fn open_receiver(settings: &Settings, state: &mut State, rows: &mut [u8]) -> u32 {
-    *state = [0; 13];
+    *state = [0; STATE_LEN];
     match Shape::of(settings).and_then(|shape| exact(&[(rows.len(), rows_len(&shape))]).map(|()| shape)) {
         Err(cause) => cause,
         Ok(shape) => {

@@ -1,7 +1,7 @@
 //! The sender but for its sums.
 
 use super::reply;
-use super::shape::{due_in_range, exact, opened, set_due, settings, Settings, Shape, State, HEADER};
+use super::shape::{due_in_range, exact, opened, set_due, settings, Settings, Shape, State, HEADER, STATE_LEN};
 
 /// The length of a sender's rows, or 0 for settings that are not accepted.
 pub fn sender_len(settings: &Settings) -> usize {
@@ -16,7 +16,7 @@ fn rows_len(shape: &Shape) -> usize {
 /// Opens a sender.
 pub fn open_sender(settings: &Settings, state: &mut State, rows: &mut [u8]) -> u32 {
     let checked = Shape::of(settings).and_then(|shape| exact(&[(rows.len(), rows_len(&shape))]));
-    *state = if checked.is_ok() { opened(settings) } else { [0; 13] };
+    *state = if checked.is_ok() { opened(settings) } else { [0; STATE_LEN] };
     if checked.is_ok() {
         rows.fill(0);
     }

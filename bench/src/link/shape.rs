@@ -5,7 +5,9 @@ use super::reply;
 /// W, T, B, N, L.
 pub type Settings = [u8; 5];
 /// The settings, the slot due (high byte first) and the slot opened at, which is 0.
-pub type State = [u8; 13];
+pub type State = [u8; STATE_LEN];
+/// Its length: that of our library's, so that putting it back takes as long.
+pub const STATE_LEN: usize = 20;
 
 /// One more than the last slot.
 pub const END: u32 = 4_000_000_000;
@@ -95,7 +97,7 @@ pub fn set_due(state: &mut State, due: u32) {
 
 /// The state of an accepted opening.
 pub fn opened(settings: &Settings) -> State {
-    let mut state = [0; 13];
+    let mut state = [0; STATE_LEN];
     state[..5].copy_from_slice(settings);
     state
 }

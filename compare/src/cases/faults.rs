@@ -2,12 +2,12 @@
 //! (Now and then it is accepted all the same: both sides must then agree on that.)
 
 use reference::frame::HEADER;
-use reference::state::State;
+use reference::state::END;
 
 use super::bounds;
 use crate::call::{Call, Kind};
 use crate::draw::Draws;
-use crate::model::{RECEIVER, SENDER, STATE};
+use crate::model::{DUE, RECEIVER, SENDER, STATE};
 
 type Fault = fn(&mut Draws, &mut Call);
 
@@ -73,6 +73,7 @@ fn other_kind(_: &mut Draws, call: &mut Call) {
     }
 }
 
+/// Any byte of the state; those that the call does not read are no cause.
 fn state_byte(draws: &mut Draws, call: &mut Call) {
     change(draws, call.thing("state"), 0, STATE);
 }
@@ -95,18 +96,18 @@ fn window(draws: &mut Draws, call: &mut Call) {
 
 /// The state's slot due is above the end.
 fn due(draws: &mut Draws, call: &mut Call) {
-    let far = draws.next() as u32 % (u32::MAX - State::END) + 1;
-    let above = draws.one_of(&[1, 2, far, u32::MAX - State::END]);
-    set_due(call, State::END + above);
+    let far = draws.next() as u32 % (u32::MAX - END) + 1;
+    let above = draws.one_of(&[1, 2, far, u32::MAX - END]);
+    set_due(call, END + above);
 }
 
 /// The state's slot due is the end.
 fn at_end(_: &mut Draws, call: &mut Call) {
-    set_due(call, State::END);
+    set_due(call, END);
 }
 
 fn set_due(call: &mut Call, due: u32) {
-    if let Some(bytes) = call.thing("state").get_mut(9..STATE) {
+    if let Some(bytes) = call.thing("state").get_mut(DUE) {
         bytes.copy_from_slice(&due.to_be_bytes());
     }
 }

@@ -6,7 +6,6 @@ use reference::frame::{self, body_length, place};
 use reference::matrix::Matrix;
 use reference::receiver::{row_count, row_length, RECEIVED};
 use reference::settings::Settings;
-use reference::state::State;
 
 use crate::draw::Draws;
 
@@ -104,6 +103,6 @@ impl History {
     /// The frame of a slot from the slot due on.
     pub fn frame(&self, slot: u32) -> Vec<u8> {
         let number = row_count(&self.settings) + (slot - self.due) as usize;
-        frame::of(&State { settings: self.settings, due: slot }, &self.bodies[number])
+        frame::of(&self.settings, slot, &self.bodies[number])
     }
 }

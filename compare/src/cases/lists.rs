@@ -1,46 +1,60 @@
 //! Lists of calls of both ends from their openings on: sends, and reports of the sender's frames
-//! under losses, with refused calls in between and sometimes damage.
+//! under losses, with refused calls in between and sometimes damage. The receiver is opened at
+//! slot 0 or at a later one.
 
 use reference::fair::{fades, promised, promised_in_a_fade};
+use reference::receiver::row_count;
 use reference::settings::{every_code, Settings};
+use reference::state::END;
 
 use super::faults::faulty;
-use super::losses::{losses, one_fade};
+use super::losses::{losses, one_fade, sparing, sparing_opening};
+use super::opening_slots;
 use super::rows::lanes;
 use crate::call::{Call, Kind};
 use crate::comparison::{Comparison, Difference};
 use crate::draw::Draws;
-use crate::model::{bytes_of, lengths, STATE};
+use crate::model::{bytes_of, lengths, DUE, STATE};
+use crate::report::Promise;
 
-/// Lists for each code; one more with a fade, where frames can be heard inside one.
+/// Lists for each code with any losses, and of them those with a receiver opened at slot 0. One
+/// more has a fade, where frames can be heard inside one, and one spares an earlier message.
 const EACH: usize = 4;
+const FROM_0: usize = 2;
 
 pub fn run(comparison: &mut Comparison) -> Result<(), Difference> {
     for code in every_code() {
         for case in 0..EACH {
-            any_losses(comparison, code, case % 2 == 0)?;
+            any_losses(comparison, code, case % 2 == 0, case < FROM_0)?;
         }
         if !fades(&code).is_empty() {
             a_fade(comparison, code)?;
         }
+        an_earlier_message(comparison, code)?;
     }
     Ok(())
 }
 
-/// Losses of any kind, and sometimes damage; narrow is the narrowest window and one lane.
+/// Losses of any kind, and sometimes damage; narrow is the narrowest window and one lane. The
+/// receiver is opened at slot 0, or at some slot.
 fn any_losses(
     comparison: &mut Comparison,
     code: Settings,
     narrow: bool,
+    from_0: bool,
 ) -> Result<(), Difference> {
     let mut draws = comparison.case("lists of calls");
     let window = if narrow { code.delay + 1 } else { super::window(&mut draws, &code) };
     let lanes = if narrow { 1 } else { lanes(&mut draws, &code) };
     let settings = Settings { window, lanes, ..code };
-    let slots = settings.t() + 2 + draws.below(2 * settings.t() + 12);
+    let openings = opening_slots(&mut draws, &settings);
+    let opened_at = if from_0 { 0 } else { draws.one_of(&openings) };
+    let more = if from_0 { 2 * settings.t() + 12 } else { settings.t() + 4 };
+    let slots = settings.t() + 2 + draws.below(more);
+    let slots = slots.min((END - opened_at) as usize);
     let lost = losses(&mut draws, &settings, slots);
     let damage = draws.once_in(3);
-    List::opened(comparison, &mut draws, settings)?.play(&lost, damage)
+    List::opened(comparison, &mut draws, settings, opened_at)?.play(&lost, damage)
 }
 
 /// One fade inside which frames are heard, and no damage: some message is promised surely.
@@ -49,7 +63,18 @@ fn a_fade(comparison: &mut Comparison, code: Settings) -> Result<(), Difference>
     let (window, lanes) = (super::window(&mut draws, &code), draws.one_of(&[1, 1, 2]));
     let settings = Settings { window, lanes, ..code };
     let lost = one_fade(&mut draws, &settings);
-    List::opened(comparison, &mut draws, settings)?.play(&lost, false)
+    List::opened(comparison, &mut draws, settings, 0)?.play(&lost, false)
+}
+
+/// A receiver opened late, losses behind that, and no damage: a message from before the opening is
+/// promised surely.
+fn an_earlier_message(comparison: &mut Comparison, code: Settings) -> Result<(), Difference> {
+    let mut draws = comparison.case("lists of calls");
+    let (window, lanes) = (super::window(&mut draws, &code), draws.one_of(&[1, 1, 2]));
+    let settings = Settings { window, lanes, ..code };
+    let opened_at = sparing_opening(&mut draws, &settings);
+    let lost = sparing(&mut draws, &settings, opened_at);
+    List::opened(comparison, &mut draws, settings, opened_at)?.play(&lost, false)
 }
 
 /// The state and the rows of one end.
@@ -64,20 +89,16 @@ struct List<'a> {
     settings: Settings,
     sender: End,
     receiver: End,
+    /// The slot at which the receiver was opened.
+    opened_at: u32,
+    /// The messages from this slot on; those before it are zeros.
+    first: u32,
     messages: Vec<Vec<u8>>,
     damaged: bool,
 }
 
-/// Opens one end, over any bytes.
-fn open(
-    comparison: &mut Comparison,
-    draws: &mut Draws,
-    kind: Kind,
-    settings: &Settings,
-    rows: usize,
-) -> Result<End, Difference> {
-    let (state, rows) = (draws.bytes(STATE), draws.bytes(rows));
-    let mut call = Call::open(kind, bytes_of(settings), state, rows);
+/// Makes an opening: the state and the rows that it leaves.
+fn open(comparison: &mut Comparison, mut call: Call) -> Result<End, Difference> {
     comparison.call(&mut call)?;
     Ok(End { state: call.take("state"), rows: call.take("rows") })
 }
@@ -87,24 +108,49 @@ impl<'a> List<'a> {
         comparison: &'a mut Comparison,
         draws: &'a mut Draws,
         settings: Settings,
+        opened_at: u32,
     ) -> Result<List<'a>, Difference> {
-        let [.., sender, receiver] = lengths(&settings);
-        let sender = open(comparison, draws, Kind::OpenSender, &settings, sender)?;
-        let receiver = open(comparison, draws, Kind::OpenReceiver, &settings, receiver)?;
+        let ([.., sender, receiver], bytes) = (lengths(&settings), bytes_of(&settings));
+        let (state, rows) = (draws.bytes(STATE), draws.bytes(sender));
+        let mut sender = open(comparison, Call::open(Kind::OpenSender, bytes, state, rows))?;
+        // With the opening's rows it is as if zeros had been sent in every slot before this one.
+        let first = opened_at - opened_at.min(row_count(&settings) as u32);
+        sender.state[DUE].copy_from_slice(&first.to_be_bytes());
+        let (state, rows) = (draws.bytes(STATE), draws.bytes(receiver));
+        let without_slot = opened_at == 0 && draws.once_in(2);
+        let opening = match without_slot {
+            true => Call::open(Kind::OpenReceiver, bytes, state, rows),
+            false => Call::open_at(bytes, opened_at, state, rows),
+        };
+        let receiver = open(comparison, opening)?;
         let (messages, damaged) = (Vec::new(), false);
-        Ok(List { comparison, draws, settings, sender, receiver, messages, damaged })
+        Ok(List {
+            comparison,
+            draws,
+            settings,
+            sender,
+            receiver,
+            opened_at,
+            first,
+            messages,
+            damaged,
+        })
     }
 
-    /// A send and a report for each slot, lost or heard as the list says.
+    /// A send for each slot that the receiver misses; then a send and a report for each, lost or
+    /// heard as the list says.
     fn play(&mut self, lost: &[bool], damage: bool) -> Result<(), Difference> {
-        for slot in 0..lost.len() {
+        for _ in self.first..self.opened_at {
+            self.send()?;
+        }
+        for (slot, &is_lost) in (self.opened_at..).zip(lost) {
             let mut frame = self.send()?;
             if damage && self.draws.once_in(10) {
                 let place = 14 + self.draws.below(frame.len() - 14);
                 self.draws.change(&mut frame[place]);
-                self.damaged |= !lost[slot];
+                self.damaged |= !is_lost;
             }
-            let (reply, message) = self.report(frame, lost[slot])?;
+            let (reply, message) = self.report(frame, is_lost)?;
             self.check_promise(lost, slot, reply, &message)?;
         }
         Ok(())
@@ -143,25 +189,31 @@ impl<'a> List<'a> {
         self.comparison.call(call)
     }
 
-    /// Demand 3: under fair losses the message due is whole, as sent.
+    /// Demand 3: under fair losses, those before the opening among them, the message due is whole,
+    /// as sent.
     fn check_promise(
         &mut self,
         lost: &[bool],
-        slot: usize,
+        slot: u32,
         reply: u32,
         message: &[u8],
     ) -> Result<(), Difference> {
-        let Some(t) = slot.checked_sub(self.settings.t()) else {
+        let (settings, opened_at) = (&self.settings, self.opened_at);
+        let Some(t) = slot.checked_sub(u32::from(settings.delay)) else {
             return Ok(());
         };
-        if self.damaged || !promised(&self.settings, lost, t) {
+        if self.damaged || !promised(settings, opened_at, lost, t) {
             return Ok(());
         }
-        if reply != 17 || message != self.messages[t] {
+        if reply != 17 || message != self.messages[(t - self.first) as usize] {
             return Err(self.comparison.failed(&format!("message {t} is not whole, as sent")));
         }
-        let in_a_fade = promised_in_a_fade(&self.settings, lost, t);
-        self.comparison.met.add_promised(&self.settings, in_a_fade);
+        let promise = Promise {
+            in_a_fade: promised_in_a_fade(settings, opened_at, lost, t),
+            earlier: t < opened_at,
+            no_row: opened_at >= row_count(settings) as u32,
+        };
+        self.comparison.met.add_promised(settings, promise);
         Ok(())
     }
 }

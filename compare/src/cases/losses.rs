@@ -1,11 +1,13 @@
 //! Losses: patterns of several kinds. Which messages they promise, the reference says (demand 3).
 
-use reference::fair::fades;
+use reference::fair::{fades, promised};
+use reference::receiver::row_count;
 use reference::settings::Settings;
+use reference::state::END;
 
 use crate::draw::Draws;
 
-/// Which slots are lost, from slot 0 on.
+/// Which slots are lost, from the opening on.
 pub fn losses(draws: &mut Draws, settings: &Settings, slots: usize) -> Vec<bool> {
     match draws.below(7) {
         0 => bursts(draws, settings, slots, usize::from(settings.burst)),
@@ -59,6 +61,34 @@ pub fn one_fade(draws: &mut Draws, settings: &Settings) -> Vec<bool> {
     lost
 }
 
+/// An opening slot behind which the last message before it is promised if nothing more is lost.
+/// Where the code's bursts are long enough it is one that leaves no row received.
+pub fn sparing_opening(draws: &mut Draws, settings: &Settings) -> u32 {
+    let burst = usize::from(settings.burst);
+    if settings.k() > burst {
+        return 1 + draws.below(burst) as u32;
+    }
+    let remembered = row_count(settings) as u32;
+    // The last one at which the message is still due before the slots end.
+    let last = END - u32::from(settings.delay);
+    let any = remembered + (draws.next() % u64::from(last - remembered)) as u32;
+    draws.one_of(&[remembered, remembered + 1, any, last])
+}
+
+/// As many losses as leave the last message before the opening promised, tried in a drawn order,
+/// or none. The list goes on until that message is due.
+pub fn sparing(draws: &mut Draws, settings: &Settings, opened_at: u32) -> Vec<bool> {
+    let slots = settings.t();
+    let mut lost = vec![false; slots];
+    let first = draws.below(slots);
+    let tried = draws.one_of(&[0, slots, slots]);
+    for slot in (0..tried).map(|step| (first + step) % slots) {
+        lost[slot] = true;
+        lost[slot] = promised(settings, opened_at, &lost, opened_at - 1);
+    }
+    lost
+}
+
 #[cfg(test)]
 mod tests {
     use reference::fair::promised_in_a_fade;
@@ -67,12 +97,29 @@ mod tests {
     use super::*;
 
     #[test]
+    fn sparing_losses_leave_an_earlier_message_promised() {
+        let mut draws = Draws::of_case(1, 2);
+        let mut with_losses = 0;
+        for code in every_code() {
+            let opened_at = sparing_opening(&mut draws, &code);
+            let no_row = opened_at as usize >= row_count(&code);
+            assert_eq!(no_row, code.k() <= usize::from(code.burst));
+            let lost = sparing(&mut draws, &code, opened_at);
+            assert!(promised(&code, opened_at, &lost, opened_at - 1), "{code:?} {opened_at}");
+            assert!(u64::from(opened_at) + lost.len() as u64 <= u64::from(END));
+            with_losses += usize::from(lost.contains(&true));
+        }
+        assert!(with_losses > 100, "{with_losses}");
+    }
+
+    #[test]
     fn one_fade_is_fair_by_the_wider_rule_only() {
         let mut draws = Draws::of_case(1, 1);
         for code in every_code().iter().filter(|code| !fades(code).is_empty()) {
             let lost = one_fade(&mut draws, code);
-            let mut due = 0..lost.len() - code.t();
-            assert!(due.any(|t| promised_in_a_fade(code, &lost, t)), "{code:?} {lost:?}");
+            let mut due = 0..(lost.len() - code.t()) as u32;
+            let wider = due.any(|t| promised_in_a_fade(code, 0, &lost, t));
+            assert!(wider, "{code:?} {lost:?}");
         }
     }
 }

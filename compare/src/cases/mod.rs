@@ -10,7 +10,9 @@ mod refused;
 mod rows;
 mod verdicts;
 
+use reference::receiver::row_count;
 use reference::settings::Settings;
+use reference::state::END;
 
 use crate::comparison::{Comparison, Difference};
 use crate::draw::Draws;
@@ -30,4 +32,17 @@ pub const PARTS: [(&str, Part); 6] = [
 fn window(draws: &mut Draws, code: &Settings) -> u8 {
     let wider = draws.below(255 - code.t()) as u8;
     code.delay + 1 + draws.one_of(&[0, wider, wider % 16, 254 - code.delay])
+}
+
+/// Any slot there is.
+fn any_slot(draws: &mut Draws) -> u32 {
+    (draws.next() % u64::from(END)) as u32
+}
+
+/// Opening slots of a code: none missed, one, all but one of those remembered, all of them and one
+/// more, any number, and the last slot of all.
+fn opening_slots(draws: &mut Draws, code: &Settings) -> [u32; 7] {
+    let remembered = row_count(code) as u32;
+    let any = any_slot(draws);
+    [0, 1, remembered - 1, remembered, remembered + 1, any, END - 1]
 }

@@ -1,9 +1,12 @@
-//! Openings of both ends: settings of all kinds, and lengths that are right or wrong.
+//! Openings of both ends: settings of all kinds, lengths that are right or wrong, and of the
+//! receiver any slots.
 
 use reference::settings::{every_code, Settings};
+use reference::state::END;
 
 use super::bounds;
 use super::faults::other_length;
+use super::opening_slots;
 use crate::call::{Call, Kind};
 use crate::comparison::{Comparison, Difference};
 use crate::draw::Draws;
@@ -19,6 +22,7 @@ pub fn run(comparison: &mut Comparison) -> Result<(), Difference> {
     for code in every_code() {
         let mut draws = comparison.case("openings of a code");
         of_code(comparison, &mut draws, code)?;
+        at_slots(comparison, &mut draws, code)?;
     }
     let mut draws = comparison.case("openings with drawn settings");
     for _ in 0..DRAWN {
@@ -51,16 +55,51 @@ fn of_code(comparison: &mut Comparison, draws: &mut Draws, c: Settings) -> Resul
     Ok(())
 }
 
-/// An opening of each end with the right lengths, and one that may have others.
+/// An opening of each end with the right lengths, and one that may have others. The receiver is
+/// opened with a slot or without.
 fn both(comparison: &mut Comparison, draws: &mut Draws, s: [u8; 5]) -> Result<(), Difference> {
     let [sender, receiver] = lengths_of_rows(s);
-    for (kind, rows) in [(Kind::OpenSender, sender), (Kind::OpenReceiver, receiver)] {
+    let of_receiver = draws.one_of(&[Kind::OpenReceiver, Kind::OpenReceiverAt]);
+    for (kind, rows) in [(Kind::OpenSender, sender), (of_receiver, receiver)] {
         for exact in [true, false] {
             let rows = if exact { rows } else { other_length(draws, rows) };
             let once = !exact && draws.once_in(4);
             let state = if once { other_length(draws, STATE) } else { STATE };
-            let mut call = Call::open(kind, s, draws.bytes(state), draws.bytes(rows));
+            let (state, rows) = (draws.bytes(state), draws.bytes(rows));
+            let mut call = match kind {
+                Kind::OpenReceiverAt => Call::open_at(s, any_number(draws), state, rows),
+                _ => Call::open(kind, s, state, rows),
+            };
             comparison.call(&mut call)?;
+        }
+    }
+    Ok(())
+}
+
+/// Any number as a slot: one that there is, one that there is not, or one near the last.
+fn any_number(draws: &mut Draws) -> u32 {
+    let near = END - 2 + draws.below(4) as u32;
+    let low = draws.below(64) as u32;
+    let any = draws.next() as u32;
+    draws.one_of(&[low, near, any])
+}
+
+/// A receiver opened at each slot of a code, and at slots that there are not: with nothing wrong,
+/// and with settings and lengths that are wrong, alone and together.
+fn at_slots(comparison: &mut Comparison, draws: &mut Draws, c: Settings) -> Result<(), Difference> {
+    let (window, lanes) = (super::window(draws, &c), super::rows::lanes(draws, &c));
+    let good = bytes_of(&Settings { window, lanes, ..c });
+    // The settings are not accepted, and every length is still theirs.
+    let bad = bytes_of(&Settings { window: c.delay, lanes, ..c });
+    let rows = lengths_of_rows(good)[1];
+    let past = END + 1 + draws.below(1000) as u32;
+    for slot in opening_slots(draws, &c).into_iter().chain([END, past, u32::MAX]) {
+        for settings in [good, bad] {
+            let others = [other_length(draws, STATE), other_length(draws, rows)];
+            for (state, rows) in [(STATE, rows), (others[0], rows), (STATE, others[1])] {
+                let (state, rows) = (draws.bytes(state), draws.bytes(rows));
+                comparison.call(&mut Call::open_at(settings, slot, state, rows))?;
+            }
         }
     }
     Ok(())

@@ -2,14 +2,14 @@
 
 use reference::frame;
 use reference::settings::{every_code, Settings};
-use reference::state::State;
+use reference::state::{ReceiverState, SenderState};
 
 use super::faults::faulty;
-use super::rows::{due, lanes};
+use super::rows::{any_receiver_bytes, any_sender_bytes, due, lanes, opened_at};
 use crate::call::Call;
 use crate::comparison::{Comparison, Difference};
 use crate::draw::Draws;
-use crate::model::{lengths, state_bytes, RECEIVER, SENDER};
+use crate::model::lengths;
 
 /// Faulty calls of each kind in a case.
 const EACH: usize = 150;
@@ -20,7 +20,7 @@ pub fn run(comparison: &mut Comparison) -> Result<(), Difference> {
         let window = super::window(&mut draws, &code);
         let settings = Settings { window, lanes: lanes(&mut draws, &code), ..code };
         let due = due(&mut draws, &settings);
-        for call in calls(&mut draws, State { settings, due }) {
+        for call in calls(&mut draws, settings, due) {
             for _ in 0..EACH {
                 comparison.call(&mut faulty(&mut draws, &call))?;
             }
@@ -30,11 +30,13 @@ pub fn run(comparison: &mut Comparison) -> Result<(), Difference> {
 }
 
 /// A send, a frame report and a loss report, without a fault, over any bytes.
-fn calls(draws: &mut Draws, state: State) -> [Call; 3] {
-    let [message, frame, sender, receiver] = lengths(&state.settings);
+fn calls(draws: &mut Draws, settings: Settings, due: u32) -> [Call; 3] {
+    let [message, frame, sender, receiver] = lengths(&settings);
     let body = draws.bytes(frame - frame::HEADER);
-    let heard = frame::of(&state, &body);
-    let (s, r) = (state_bytes(SENDER, &state), state_bytes(RECEIVER, &state));
+    let heard = frame::of(&settings, due, &body);
+    let s = any_sender_bytes(draws, &SenderState { settings, due });
+    let opened_at = opened_at(draws, due);
+    let r = any_receiver_bytes(draws, &ReceiverState { settings, opened_at, due });
     let mut bytes = |count| draws.bytes(count);
     [
         Call::send(s, bytes(sender), bytes(message), bytes(frame)),

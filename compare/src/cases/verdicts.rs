@@ -1,13 +1,14 @@
 //! For every code, rows for which each reply of a report is due: a frame report and a loss report each.
 
 use reference::settings::{every_code, Settings};
-use reference::state::State;
+use reference::state::ReceiverState;
 
 use super::history::{Change, History};
+use super::rows::{any_receiver_bytes, opened_at};
 use crate::call::Call;
 use crate::comparison::{Comparison, Difference};
 use crate::draw::Draws;
-use crate::model::{lengths, state_bytes, RECEIVER};
+use crate::model::lengths;
 
 /// Only for a slot due below T is the reply "none yet"; the others are mostly whole, lost and clash.
 const CHANGES: [Change; 4] = [Change::True, Change::AllLost, Change::OnlyBodies, Change::Damage];
@@ -21,7 +22,9 @@ pub fn run(comparison: &mut Comparison) -> Result<(), Difference> {
         let above = super::rows::due(&mut draws, &settings).max(u32::from(code.delay));
         for due in [below, above] {
             for change in CHANGES {
-                both(comparison, &mut draws, State { settings, due }, change)?;
+                let opened_at = opened_at(&mut draws, due);
+                let state = ReceiverState { settings, opened_at, due };
+                both(comparison, &mut draws, state, change)?;
             }
         }
     }
@@ -32,14 +35,14 @@ pub fn run(comparison: &mut Comparison) -> Result<(), Difference> {
 fn both(
     comparison: &mut Comparison,
     draws: &mut Draws,
-    state: State,
+    state: ReceiverState,
     change: Change,
 ) -> Result<(), Difference> {
     let history = History::drawn(draws, state.settings, state.due, 1);
     let rows = history.changed_rows(draws, change);
     let buffer = draws.bytes(lengths(&state.settings)[0]);
     let frame = history.frame(state.due);
-    let state = state_bytes(RECEIVER, &state);
+    let state = any_receiver_bytes(draws, &state);
     comparison.call(&mut Call::lost(state.clone(), rows.clone(), buffer.clone()))?;
     comparison.call(&mut Call::heard(state, rows, frame, buffer))?;
     Ok(())

@@ -121,7 +121,7 @@ fn report(x: Receiver, lost: bool, rows: &mut [u8], frame: &[u8], message: &mut 
 fn report_all(lanes: usize, lost: usize, rows: &mut [u8], frames: &[u8], message: &mut [u8])
     requires { ⌜ (lanes ≤ 3) × (length (now frames) ≡ 156) ⌝ }
 {
-    let opened = receiver::open(settings(lanes), rows);
+    let opened = receiver::open(settings(lanes), 0, rows);
     let mut x = opened.receiver;
     let mut slot: usize = 0;
     while slot < 6 {

@@ -3,6 +3,7 @@ mod opening;
 mod slots;
 
 pub use opening::open_cause;
+pub use opening::open_receiver_cause;
 pub use slots::frame_cause;
 pub use slots::loss_cause;
 pub use slots::send_cause;

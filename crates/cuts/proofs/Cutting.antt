@@ -25,10 +25,10 @@ module _ (s : Settings) (cut e : ℕ) (rows : List ℕ) (ends : e ≡ endOf (len
   unfolding openSenderCut before behind
   sender-opened o called = rw (called, sub-zero e, ends)
 
-  pub receiver-opened : (o : OpenedReceiver) → o ≡ openReceiverOf s (take (e - 0) rows)
-      → record { receiver = o .receiver; rows = o .rows ++ drop (e - 0) rows } ≡ openReceiverCut s cut rows
+  pub receiver-opened : (slot : ℕ) (o : OpenedReceiver) → o ≡ openReceiverOf s slot (take (e - 0) rows)
+      → record { receiver = o .receiver; rows = o .rows ++ drop (e - 0) rows } ≡ openReceiverCut s slot cut rows
   unfolding openReceiverCut before behind
-  receiver-opened o called = rw (called, sub-zero e, ends)
+  receiver-opened slot o called = rw (called, sub-zero e, ends)
 
 -- ---- a send
 
@@ -43,7 +43,7 @@ sent c rows message frame d e f x o state rows-end message-end frame-end called 
 -- ---- reports
 
 pub heard : (c : Call) (rows frame buffer : List ℕ) (d e f : ℕ) (x : Receiver) (o : Reported)
-    → x ≡ receiverAt (c .settings) (c .due) → d ≡ endOf (length rows) (c .rows) → e ≡ endOf (length frame) (c .first) → f ≡ endOf (length buffer) (c .second)
+    → x ≡ receiverAt (c .settings) (c .opening) (c .due) → d ≡ endOf (length rows) (c .rows) → e ≡ endOf (length frame) (c .first) → f ≡ endOf (length buffer) (c .second)
     → o ≡ heardOf x (take (d - 0) rows) (take (e - 0) frame) (take (f - 0) buffer)
     → record { receiver = o .receiver; rows = o .rows ++ drop (d - 0) rows; buffer = o .message ++ drop (f - 0) buffer } ≡ heardCut c rows frame buffer
 unfolding reportCut heardCut before behind
@@ -51,7 +51,7 @@ heard c rows frame buffer d e f x o state rows-end frame-end buffer-end called =
     rw (called, state, sub-zero d, sub-zero e, sub-zero f, rows-end, frame-end, buffer-end)
 
 pub lost : (c : Call) (rows buffer : List ℕ) (d f : ℕ) (x : Receiver) (o : Reported)
-    → x ≡ receiverAt (c .settings) (c .due) → d ≡ endOf (length rows) (c .rows) → f ≡ endOf (length buffer) (c .first)
+    → x ≡ receiverAt (c .settings) (c .opening) (c .due) → d ≡ endOf (length rows) (c .rows) → f ≡ endOf (length buffer) (c .first)
     → o ≡ lossOf x (take (d - 0) rows) (take (f - 0) buffer)
     → record { receiver = o .receiver; rows = o .rows ++ drop (d - 0) rows; buffer = o .message ++ drop (f - 0) buffer } ≡ lossCut c rows buffer
 unfolding reportCut lossCut before behind

@@ -39,10 +39,10 @@ pub record ReceiverOpening : Type 0 where
   pub receiver : Receiver
   pub rows : List ℕ
 
--- an opening of the receiver
-unfoldable pub openReceiverCut : Settings → ℕ → List ℕ → ReceiverOpening
-openReceiverCut s cut rows =
-    let o = openReceiverOf s (before cut rows) in
+-- an opening of the receiver at this slot
+unfoldable pub openReceiverCut : Settings → ℕ → ℕ → List ℕ → ReceiverOpening
+openReceiverCut s slot cut rows =
+    let o = openReceiverOf s slot (before cut rows) in
     record { receiver = o .receiver; rows = o .rows ++ behind cut rows }
 
 -- ---- sends
@@ -77,7 +77,7 @@ reportCut o rows buffer = record { receiver = o .receiver; rows = o .rows ++ row
 unfoldable pub heardCut : Call → List ℕ → List ℕ → List ℕ → Reporting
 heardCut c rows frame buffer =
     reportCut
-    (heardOf (receiverAt (c .settings) (c .due)) (before (c .rows) rows) (before (c .first) frame)
+    (heardOf (receiverAt (c .settings) (c .opening) (c .due)) (before (c .rows) rows) (before (c .first) frame)
     (before (c .second) buffer))
     (behind (c .rows) rows)
     (behind (c .second) buffer)
@@ -86,6 +86,6 @@ heardCut c rows frame buffer =
 unfoldable pub lossCut : Call → List ℕ → List ℕ → Reporting
 lossCut c rows buffer =
     reportCut
-    (lossOf (receiverAt (c .settings) (c .due)) (before (c .rows) rows) (before (c .first) buffer))
+    (lossOf (receiverAt (c .settings) (c .opening) (c .due)) (before (c .rows) rows) (before (c .first) buffer))
     (behind (c .rows) rows)
     (behind (c .first) buffer)

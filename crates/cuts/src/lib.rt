@@ -3,9 +3,10 @@ use code::Settings;
 ghost use mathlib.Core.Path.{_≡_};
 ghost use Rattle.cuts.specs.Cuts.{endOf};
 
-// The state that a call starts from, and what is not lent of the rows and of the two things after them.
+// The state that a call starts from, a receiver's with its opening slot, and what is not lent of the rows and of the two things after them.
 pub struct Call {
     pub settings: Settings,
+    pub opening: u32,
     pub due: u32,
     pub rows: usize,
     pub first: usize,

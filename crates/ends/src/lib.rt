@@ -38,21 +38,22 @@ pub fn next_sender(x: Sender) -> Sender
     sender_at(s, x.due + 1)
 }
 
-// A receiver with these settings and this slot due.
-pub fn receiver_at(s: Settings, due: u32) -> Receiver
-    ensures { λ r. ⌜ r ≡ receiverAt s due ⌝ }
+// A receiver with these settings, this opening slot and this slot due.
+pub fn receiver_at(s: Settings, opening: u32, due: u32) -> Receiver
+    ensures { λ r. ⌜ r ≡ receiverAt s opening due ⌝ }
 {
     Receiver {
         settings: s,
+        opening: opening,
         due: due,
     }
 }
 
-// A receiver as an accepted opening makes it.
-pub fn opened_receiver(s: Settings) -> Receiver
-    ensures { λ r. ⌜ r ≡ openedReceiver s ⌝ }
+// A receiver as an accepted opening at this slot makes it.
+pub fn opened_receiver(s: Settings, slot: u32) -> Receiver
+    ensures { λ r. ⌜ r ≡ openedReceiver s slot ⌝ }
 {
-    receiver_at(s, 0)
+    receiver_at(s, slot, slot)
 }
 
 // A receiver as an accepted report leaves it.
@@ -61,10 +62,10 @@ pub fn next_receiver(x: Receiver) -> Receiver
     ensures { λ r. ⌜ r ≡ reportedOn x ⌝ }
 {
     let s = x.settings;
-    receiver_at(s, x.due + 1)
+    receiver_at(s, x.opening, x.due + 1)
 }
 
-// Document 01's number for a cause.
+// The papers' number for a cause.
 pub fn number_of(c: Cause) -> u32
     ensures { λ r. ⌜ r ≡ numberOf c ⌝ }
 {
@@ -75,6 +76,7 @@ pub fn number_of(c: Cause) -> u32
         Cause::OtherMark => 4,
         Cause::OtherSettings => 5,
         Cause::OtherSlot => 6,
+        Cause::LateOpening => 7,
     }
 }
 

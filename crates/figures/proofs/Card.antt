@@ -30,21 +30,21 @@ from-each P (y ∷ l) each x h =
 -- what the reports come to, through elimination
 unfoldable pub quickReported : Settings → List Fate → List ReportMade
 quickReported s fates =
-    let opened : OpenedReceiver = openReceiverOf s (replicate (receiverLen s) 7) in
+    let opened : OpenedReceiver = openReceiverOf s 0 (replicate (receiverLen s) 7) in
     quickReports (opened .receiver) (opened .rows) (calls s fates)
 
 -- it is what they come to, where the opening is accepted and each frame is made of bytes
 pub reported-quickly : (s : Settings) (fates : List Fate)
-    → let opened : OpenedReceiver = openReceiverOf s (replicate (receiverLen s) 7) in
+    → let opened : OpenedReceiver = openReceiverOf s 0 (replicate (receiverLen s) 7) in
     T (accepted (opened .receiver .settings)) → T (small (opened .rows)) → T (smallFrames (calls s fates))
-    → reported s (calls s fates) ≡ quickReported s fates
+    → reported s 0 (calls s fates) ≡ quickReported s fates
 unfolding quickReported reported
 reported-quickly s fates ok hs h =
-    let opened : OpenedReceiver = openReceiverOf s (replicate (receiverLen s) 7) in
+    let opened : OpenedReceiver = openReceiverOf s 0 (replicate (receiverLen s) 7) in
     quick-reports (opened .receiver) ok (opened .rows) hs (calls s fates) h
 
 -- so is what they tell
-told-quickly : (s : Settings) (fates : List Fate) → reported s (calls s fates) ≡ quickReported s fates
+told-quickly : (s : Settings) (fates : List Fate) → reported s 0 (calls s fates) ≡ quickReported s fates
     → told (toldOf s fates) ≡ told (drop (s .delay) (toldBy s (quickReported s fates)))
 unfolding toldOf
 told-quickly s fates = ap (λ (made : List ReportMade). told (drop (s .delay) (toldBy s made)))

@@ -111,7 +111,7 @@ exampleLines =
 quickTranscript : List ℕ
 quickTranscript =
     let s : Settings = settingsIn example in
-    let opened : OpenedReceiver = openReceiverOf s (replicate (receiverLen s) 0) in
+    let opened : OpenedReceiver = openReceiverOf s 0 (replicate (receiverLen s) 0) in
     quickPlayed (pieces (length example / frameLen s) (frameLen s) example) (opened .receiver) (opened .rows) (replicate (messageLen s) 0)
 
 -- it is what the definition prints
@@ -119,7 +119,7 @@ quickly-printed : transcript example ≡ quickTranscript
 unfolding computing transcript playedFrom quickTranscript Alike recordingCause settingsAt pieces example smallAll
 quickly-printed =
     let s : Settings = settingsIn example in
-    let opened : OpenedReceiver = openReceiverOf s (replicate (receiverLen s) 0) in
+    let opened : OpenedReceiver = openReceiverOf s 0 (replicate (receiverLen s) 0) in
     played-alike (pieces 3 18 example) tt (opened .receiver) tt (opened .rows) tt (replicate (messageLen s) 0)
 
 -- computed, as document 01 prints it

@@ -3,7 +3,7 @@
 use mathlib.Core.Path.{_≡_, refl, subst⁻¹}
 use mathlib.Core.Bool.{Bool, not}
 use mathlib.Core.List.{List, [], _∷_, List·Memᴰ, List·Memᴰ·head, List·Memᴰ·tail}
-use Prim.Native.Nat.{ℕ, _+_, _*_}
+use Prim.Native.Nat.{ℕ, _+_, _*_, zero-le}
 use lib.Dec.{T}
 use lib.ListN.{getD, replicate}
 use Rattle.galois.specs.Bounded.{every, any}
@@ -12,7 +12,7 @@ use Rattle.code.specs.declared.settings.Settings.{Settings}
 use Rattle.repair.specs.FairBefore.{runAt, oneRun, stretchBefore}
 use Rattle.protocol.specs.declared.Reply.the-variants as reply
 use Rattle.protocol.specs.Lengths.{frameLen, messageLen}
-use Rattle.protocol.specs.TwoLists.{Send, Report, heard, ReportMade}
+use Rattle.protocol.specs.TwoLists.{Send, Report, ReportMade}
 use Rattle.protocol.specs.Histories.{lostAt}
 use Rattle.figures.specs.Card.{setTo, framesOf, Fate, lost, own, reportsOf, reported}
 use Rattle.figures.proofs.Computing.{computing}
@@ -40,15 +40,15 @@ fadeReports = reportsOf (replicate (messageLen settings) 7) fates fadeFrames
 -- the report of slot 5 hands out message 0 whole
 abbrev pub Fade : Type 0
 Fade =
-    (r : ReportMade) × List·Memᴰ r (reported settings fadeReports) × (r .before .due ≡ 5)
+    (r : ReportMade) × List·Memᴰ r (reported settings 0 fadeReports) × (r .before .due ≡ 5)
     × (r .after .reply ≡ reply.Whole) × (r .after .message ≡ 1 ∷ 2 ∷ 3 ∷ 4 ∷ 5 ∷ [])
 
 -- by document 01's rule the losses of the four slots are not fair
-pub not-fair-before : T (not (stretchBefore settings (lostAt (reported settings fadeReports)) 0 4))
+pub not-fair-before : T (not (stretchBefore settings (lostAt (reported settings 0 fadeReports)) 0 4))
 unfolding computing listing fadeSends fadeFrames fadeReports framesOf reportsOf every any runAt oneRun stretchBefore
 not-fair-before =
     subst⁻¹ (λ (lost : ℕ → Bool). T (not (stretchBefore settings lost 0 4)))
-    (λ i τ. losses-alone (reported settings fadeReports) τ i) tt
+    (λ i τ. losses-alone (reported settings 0 fadeReports) τ i) tt
 
 -- demand 3 says it, all of its terms being met
 pub fade : Fade
@@ -56,7 +56,7 @@ unfolding computing listing fadeSends fadeFrames fadeReports framesOf reportsOf
 fade =
     let here = List·Memᴰ·tail (List·Memᴰ·tail (List·Memᴰ·tail (List·Memᴰ·tail (List·Memᴰ·tail (List·Memᴰ·head refl))))) in
     let out =
-    handed-out settings tt fadeSends (tt, (tt, (tt, (tt, (tt, (tt, tt)))))) fadeReports
+    handed-out settings tt 0 zero-le fadeSends (tt, (tt, (tt, (tt, (tt, (tt, tt)))))) fadeReports
     ((refl, refl, tt), ((refl, refl, tt), ((refl, refl, refl), ((refl, refl, tt), ((refl, refl, refl), ((refl, refl, refl), tt))))))
     0 tt _ (getD fadeFrames 5 []) (replicate 5 7) here refl refl refl _ (List·Memᴰ·head refl) refl refl in
     (_, here, refl, out .0, out .1)

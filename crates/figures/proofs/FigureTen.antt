@@ -2,7 +2,7 @@
 -- What the reports get is computed; that slot 3's is accepted, and message 0 then whole, 01 00 in hex, is what the demand says.
 use mathlib.Core.Path.{_≡_, refl}
 use mathlib.Core.List.{List, [], _∷_, List·Memᴰ, List·Memᴰ·head, List·Memᴰ·tail}
-use Prim.Native.Nat.{ℕ}
+use Prim.Native.Nat.{ℕ, zero-le}
 use lib.ListN.{getD, replicate}
 use Rattle.code.specs.declared.settings.Settings.{Settings}
 use Rattle.protocol.specs.declared.Reply.the-variants as reply
@@ -25,7 +25,7 @@ frameAt t = getD (framesOf (sent card 4)) t []
 -- figure 10: the report of slot 3 hands out message 0 whole, 01 00 in hex
 abbrev pub Figure : Type 0
 Figure =
-    (r : ReportMade) × List·Memᴰ r (reported card (calls card fates)) × (r .before .due ≡ 3)
+    (r : ReportMade) × List·Memᴰ r (reported card 0 (calls card fates)) × (r .before .due ≡ 3)
     × (r .call ≡ heard (frameAt 3) (replicate 2 7)) × (r .after .reply ≡ reply.Whole) × (r .after .message ≡ 0x01 ∷ 0x00 ∷ [])
 
 -- demand 3 says it, all of its terms being met
@@ -34,7 +34,7 @@ unfolding computing listing sendCalls sent framesOf calls reportsOf
 figure-ten =
     let here = List·Memᴰ·tail (List·Memᴰ·tail (List·Memᴰ·tail (List·Memᴰ·head refl))) in
     let out =
-    handed-out card tt (sendCalls card 4) (tt, (tt, (tt, (tt, tt)))) (calls card fates)
+    handed-out card tt 0 zero-le (sendCalls card 4) (tt, (tt, (tt, (tt, tt)))) (calls card fates)
     ((refl, refl, tt), ((refl, refl, tt), ((refl, refl, refl), ((refl, refl, refl), tt))))
     0 tt _ (frameAt 3) (replicate 2 7) here refl refl refl _ (List·Memᴰ·head refl) refl refl in
     (_, here, refl, refl, out .0, out .1)

@@ -4,3 +4,4 @@ pub mod Example
 pub mod Claimed
 pub mod FigureTen
 pub mod Fade
+pub mod Late

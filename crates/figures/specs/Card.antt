@@ -102,10 +102,10 @@ reportsOf buffer (altered body ∷ xs) (frame ∷ frames) = heard (take 14 frame
 unfoldable pub calls : Settings → List Fate → List Report
 calls s fates = reportsOf (replicate (messageLen s) 7) fates (framesOf (sent s (length fates)))
 
--- what these reports come to after an opening
-unfoldable pub reported : Settings → List Report → List ReportMade
-reported s cs =
-    let opened : OpenedReceiver = openReceiverOf s (replicate (receiverLen s) 7) in
+-- what these reports come to after an opening at this slot
+unfoldable pub reported : Settings → ℕ → List Report → List ReportMade
+reported s slot cs =
+    let opened : OpenedReceiver = openReceiverOf s slot (replicate (receiverLen s) 7) in
     reports (opened .receiver) (opened .rows) cs
 
 -- what reports tell
@@ -119,7 +119,7 @@ toldBy s = map (λ r. record {
 
 -- what they tell from slot T on, where message 0 is due
 unfoldable pub toldOf : Settings → List Fate → List Told
-toldOf s fates = drop (s .delay) (toldBy s (reported s (calls s fates)))
+toldOf s fates = drop (s .delay) (toldBy s (reported s 0 (calls s fates)))
 
 -- ---- the card
 

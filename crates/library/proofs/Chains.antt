@@ -15,12 +15,12 @@ use Rattle.protocol.specs.declared.Cause.{Cause}
 use Rattle.protocol.specs.declared.Answer.{Answer}
 use Rattle.protocol.specs.declared.Answer.the-variants as answer
 use Rattle.protocol.specs.Causes.{lossCause, frameCause}
-use Rattle.protocol.specs.Lengths.{lastSlot, senderLen, receiverLen}
+use Rattle.protocol.specs.Lengths.{lastSlot, senderLen}
 use Rattle.protocol.specs.States.{openedSender, sentOn, openedReceiver, reportedOn}
 use Rattle.protocol.specs.Calls.{OpenedSender, OpenedReceiver, Sent, Reported, openSenderOf, openReceiverOf, sendOf, movedOn, lossOf, heardOf}
 use Rattle.protocol.specs.Histories.{accepts}
 use Rattle.protocol.specs.TwoLists.{Send, SendMade, sends, Report, heard, missed, reportOf, ReportMade, reports}
-use Rattle.protocol.proofs.CauseTables.{open-clear}
+use Rattle.protocol.proofs.CauseTables.{open-clear, OpensAt}
 use Rattle.protocol.proofs.Sending as sending
 use Rattle.protocol.proofs.ReportCauses.{loss-open, frame-open}
 use Rattle.protocol.proofs.ReportRows.{moved-accepts}
@@ -48,7 +48,7 @@ KeepsSender = Keeps senderEnd senderIn
 
 -- a state that was written keeps what it was written from
 kept-sender : (x : Sender) → x .due ≤ lastSlot + 1 → KeepsSender (senderBytes x) x
-kept-sender x few = record { uncaused = state-uncaused senderEnd (x .settings) (x .due); reads = sender-in-state x few }
+kept-sender x few = record { uncaused = state-uncaused senderEnd (x .settings) (x .due) 0; reads = sender-in-state x few }
 
 -- an opening with accepted settings and exact lengths replies 0, and the next call reads the sender that it opened
 pub opened-sender-read : (settings state rows : List ℕ) → T (accepted (settingsOf settings)) → length state ≡ stateLen
@@ -123,23 +123,31 @@ sends-read (c ∷ cs) due state rows x k e =
 
 -- ---- the receiver
 
-abbrev pub KeepsReceiver : List ℕ → Receiver → Type 0
-KeepsReceiver = Keeps receiverEnd receiverIn
+-- the bytes keep y, which was opened at a slot up to the last one
+pub record KeepsReceiver (state : List ℕ) (y : Receiver) : Type 0 where
+  pub keeps : Keeps receiverEnd receiverIn state y
+  pub begun : y .opening ≤ lastSlot
 
-kept-receiver : (y : Receiver) → y .due ≤ lastSlot + 1 → KeepsReceiver (receiverBytes y) y
-kept-receiver y few = record { uncaused = state-uncaused receiverEnd (y .settings) (y .due); reads = receiver-in-state y few }
+kept-receiver : (y : Receiver) → y .opening ≤ lastSlot → y .due ≤ lastSlot + 1 → KeepsReceiver (receiverBytes y) y
+kept-receiver y begun few = record {
+  keeps = record {
+    uncaused = state-uncaused receiverEnd (y .settings) (y .due) (y .opening);
+    reads = receiver-in-state y begun few;
+  };
+  begun = begun;
+}
 
 -- an opening with accepted settings and exact lengths replies 0, and the next call reads the receiver that it opened
-pub opened-receiver-read : (settings state rows : List ℕ) → T (accepted (settingsOf settings)) → length state ≡ stateLen
-    → length rows ≡ receiverLen (settingsOf settings)
-    → let b : Opening = openReceiverBytes settings state rows in
-    let r : OpenedReceiver = openReceiverOf (settingsOf settings) rows in
+pub opened-receiver-read : (settings : List ℕ) (slot : ℕ) (state rows : List ℕ) → OpensAt (settingsOf settings) slot rows
+    → length state ≡ stateLen
+    → let b : Opening = openReceiverBytes settings slot state rows in
+    let r : OpenedReceiver = openReceiverOf (settingsOf settings) slot rows in
     (b .reply ≡ 0) × (b .rows ≡ r .rows) × KeepsReceiver (b .state) (r .receiver)
 unfolding settingsOf
-opened-receiver-read settings state rows ok room full =
+opened-receiver-read settings slot state rows opens room =
     let s : Settings = settingsAt 0 settings in
-    rw (sym (receiver-uncaused settings state rows (open-clear s stateLen state ok room)), reporting.opened-receiver s ok rows full)
-    (refl, refl, kept-receiver (openedReceiver s) (omega arith))
+    rw (sym (receiver-uncaused settings state rows slot (open-clear s stateLen state (opens .settings) room)), reporting.opened-receiver s slot rows opens)
+    (refl, refl, kept-receiver (openedReceiver s slot) (opens .in-time) (omega (arith, opens .in-time)))
 
 -- a report by the library: what it leaves, the receiver that the next call reads, and the slot due then
 pub record ReportStep (state rows : List ℕ) (call : Report) (y : Receiver) : Type 0 where
@@ -147,7 +155,7 @@ pub record ReportStep (state rows : List ℕ) (call : Report) (y : Receiver) : T
   pub next : KeepsReceiver (reportBytes state rows call .state) (reportOf y rows call .receiver)
   pub due : reportOf y rows call .receiver .due ≡ dueAfter (y .due) (reportBytes state rows call .reply)
 
-module _ (state rows : List ℕ) (none : stateCause receiverEnd state ≡ answer.Accepted) where
+module _ (state rows : List ℕ) (none : stateCause receiverEnd state ≡ answer.Accepted) (begun : receiverIn state .opening ≤ lastSlot) where
   abbrev y : Receiver
   y = receiverIn state
 
@@ -165,13 +173,15 @@ module _ (state rows : List ℕ) (none : stateCause receiverEnd state ≡ answer
       let r : Reported = movedOn y row rows in
       let passed : accepts (r .reply) ≡ true = is-true (accepts (r .reply)) (moved-accepts y row rows) in (
         subst⁻¹ (λ (t : Bool). KeepsReceiver (saved t (receiverBytes (reportedOn y)) state) (r .receiver)) passed
-            (kept-receiver (reportedOn y) (omega arith)),
+            (kept-receiver (reportedOn y) begun (omega arith)),
         ap (λ (t : Bool). cond t (y .due + 1) (y .due)) (sym (reply-accepted (r .reply) ∙ passed)),
       )
 
   stayed-next : (c : Cause) (message : List ℕ) → After (steps.refusal c y rows message)
-  stayed-next c message =
-      (record { uncaused = none; reads = refl }, ap (λ (t : Bool). cond t (y .due + 1) (y .due)) (sym (cause-refused c)))
+  stayed-next c message = (
+    record { keeps = record { uncaused = none; reads = refl }; begun = begun },
+    ap (λ (t : Bool). cond t (y .due + 1) (y .due)) (sym (cause-refused c)),
+  )
 
   -- by the cause that is found
   heard-next : (frame message : List ℕ) (found : Answer) → frameCause y rows frame message ≡ found → After (heardOf y rows frame message)
@@ -198,7 +208,10 @@ module _ (state rows : List ℕ) (none : stateCause receiverEnd state ≡ answer
       record { same = same; next = rw same (next .0); due = rw same (next .1) }
 
 pub report-step : (state rows : List ℕ) (call : Report) (y : Receiver) → KeepsReceiver state y → ReportStep state rows call y
-report-step state rows call y k = subst (ReportStep state rows call) (k .reads) (reported-step state rows (k .uncaused) call)
+report-step state rows call y k =
+    let same = k .keeps .reads in
+    subst (ReportStep state rows call) same
+    (reported-step state rows (k .keeps .uncaused) (subst⁻¹ (λ (z : Receiver). z .opening ≤ lastSlot) same (k .begun)) call)
 
 -- the library's report and protocol's: for the same slot, with the same call, and alike in what the caller sees
 pub record SameReport (m : ReportMade) (b : ReportDone) : Type 0 where

@@ -3,7 +3,7 @@ use mathlib.Core.Path.{_≡_, refl, sym, ap, ap₂, _∙_, subst, subst⁻¹, fu
 use mathlib.Core.Bool.{Bool, _&&_, _||_}
 use mathlib.Core.List.{List, Forall₂, Forall₂·nil, Forall₂·cons}
 use Prim.Native.Nat.{ℕ, _+_, _-_, _≤_}
-use lib.Dec.{T, eqb}
+use lib.Dec.{T, eqb, ltb}
 use lib.ListN.{length}
 use Rattle.code.specs.declared.settings.Settings.{Settings}
 use Rattle.code.specs.Settings.{delayOf, kOf}
@@ -11,8 +11,9 @@ use Rattle.repair.specs.Fair.{Fair}
 use Rattle.protocol.specs.Lengths.{lastSlot}
 use Rattle.protocol.specs.Calls.{OpenedSender, OpenedReceiver, openSenderOf, openReceiverOf}
 use Rattle.protocol.specs.TwoLists.{Send, SendMade, sends, ReportMade, reports}
-use Rattle.protocol.specs.Histories.{SentAs, accepts, ofLoss, lostAt}
+use Rattle.protocol.specs.Histories.{SentAs, accepts, ofLoss, lostAt, lostSince}
 use Rattle.protocol.specs.Claim.{Faithful, NoCause, Holds, Demand3}
+use Rattle.protocol.proofs.CauseTables.{OpensAt}
 use Rattle.protocol.proofs.Demand.{demand3}
 use Rattle.protocol.proofs.Sending as sending
 use Rattle.protocol.proofs.ReportChain as reporting
@@ -21,7 +22,7 @@ use Rattle.layout.specs.Numbers.{acceptance}
 use Rattle.layout.proofs.Refusals.{reply-accepted, answer-accepted}
 use Rattle.library.specs.Calls.{settingsOf, Opening, openSenderBytes, openReceiverBytes}
 use Rattle.library.specs.Chains.{SendDone, sendsBytes, ReportDone, reportsBytes}
-use Rattle.library.specs.Claim.{SentAsBytes, lostAtBytes, FaithfulBytes, HoldsBytes, Demand3Bytes}
+use Rattle.library.specs.Claim.{SentAsBytes, lostAtBytes, lostSinceBytes, FaithfulBytes, HoldsBytes, Demand3Bytes}
 use Rattle.library.proofs.Partners as partner
 use Rattle.library.proofs.Chains.{opened-sender-read, SameSend, sends-read, opened-receiver-read, SameReport, reports-read}
 
@@ -37,6 +38,11 @@ lost-same (Forall₂·cons {a = m} {b = b} same rest) t =
     ap₂ _||_
     (ap₂ _&&_ (passed same) (ap₂ _&&_ (ap ofLoss (same .call)) (ap (λ (d : ℕ). eqb d t) (same .due))))
     (lost-same rest t)
+
+since-same : (opening : ℕ) {made : List ReportMade} {told : List ReportDone} → Forall₂ SameReport made told
+    → (t : ℕ) → lostSinceBytes opening told t ≡ lostSince opening made t
+unfolding lostSinceBytes lostSince
+since-same opening alike t = ap (λ (b : Bool). ltb t opening || b) (lost-same alike t)
 
 module _ {sends₁ : List SendMade} {sends₂ : List SendDone} (alike : Forall₂ SameSend sends₁ sends₂) {t : ℕ} {message frame : List ℕ} where
   -- what protocol sent, the library sent
@@ -65,7 +71,7 @@ module _ {sends₁ : List SendMade} {sends₂ : List SendDone} (alike : Forall�
         out = sym (same .frame) ∙ a .out;
       }
 
-module _ (s : Settings) {sends₁ : List SendMade} {sends₂ : List SendDone} (sent : Forall₂ SameSend sends₁ sends₂)
+module _ (s : Settings) (opening : ℕ) {sends₁ : List SendMade} {sends₂ : List SendDone} (sent : Forall₂ SameSend sends₁ sends₂)
     {reports₁ : List ReportMade} {reports₂ : List ReportDone} (told : Forall₂ SameReport reports₁ reports₂) where
   -- frames that are the library's sender's own are those of protocol's
   faithful : FaithfulBytes sends₂ reports₂ → Faithful sends₁ reports₁
@@ -76,7 +82,7 @@ module _ (s : Settings) {sends₁ : List SendMade} {sends₂ : List SendDone} (s
       (message, subst (λ (d : ℕ). SentAs sends₁ d message f) (same .due) (sent-made sent a))
 
   -- so what holds of protocol's lists holds of the library's
-  holds : Holds s sends₁ reports₁ → HoldsBytes s sends₂ reports₂
+  holds : Holds s opening sends₁ reports₁ → HoldsBytes s opening sends₂ reports₂
   holds h = record {
     sends-taken = λ b listed.
         let (m, listed-m, same) = partner.first sent listed in
@@ -114,33 +120,35 @@ module _ (s : Settings) {sends₁ : List SendMade} {sends₂ : List SendDone} (s
         let (r, listed-r, same) = partner.first told listed in
         let (message, frame, a, whole, out) =
         h .on-time t r listed-r (sym (same .due) ∙ slot) (subst T (passed same) taken)
-        (subst (λ (lost : ℕ → Bool). Fair s lost (t + 1 - kOf s) (t + delayOf s)) (fun-ext (lost-same told)) fair) in
+        (subst (λ (lost : ℕ → Bool). Fair s lost (t + 1 - kOf s) (t + delayOf s)) (fun-ext (since-same opening told)) fair) in
         (message, frame, sent-bytes sent a, same .reply ∙ ap replyNumber whole, same .message ∙ out);
   }
 
 -- demand 3, of the library's calls
 pub demand3-bytes : Demand3Bytes
 unfolding Demand3Bytes Demand3
-demand3-bytes settings ok senderState senderRows receiverState receiverRows sender-room sender-full receiver-room receiver-full
+demand3-bytes settings ok opening in-time senderState senderRows receiverState receiverRows sender-room sender-full receiver-room receiver-full
     sendCalls bytes reportCalls =
     let s : Settings = settingsOf settings in
     let a : Opening = openSenderBytes settings senderState senderRows in
-    let b : Opening = openReceiverBytes settings receiverState receiverRows in
+    let b : Opening = openReceiverBytes settings opening receiverState receiverRows in
+    let opens : OpensAt s opening receiverRows = record { settings = ok; exact = receiver-full; in-time = in-time } in
     let x = openSenderOf s senderRows .sender in
-    let y = openReceiverOf s receiverRows .receiver in
+    let y = openReceiverOf s opening receiverRows .receiver in
     let (a-reply, a-rows, a-keeps) = opened-sender-read settings senderState senderRows ok sender-room sender-full in
-    let (b-reply, b-rows, b-keeps) = opened-receiver-read settings receiverState receiverRows ok receiver-room receiver-full in
+    let (b-reply, b-rows, b-keeps) = opened-receiver-read settings opening receiverState receiverRows opens receiver-room in
     let sent =
     subst (λ (rows : List ℕ). Forall₂ SameSend (sends x rows sendCalls) (sendsBytes 0 (a .state) (a .rows) sendCalls)) a-rows
     (sends-read sendCalls 0 (a .state) (a .rows) x a-keeps
     (ap (λ (r : OpenedSender). r .sender .due) (sending.opened-sender s senderRows ok sender-full))) in
     let told =
-    subst (λ (rows : List ℕ). Forall₂ SameReport (reports y rows reportCalls) (reportsBytes 0 (b .state) (b .rows) reportCalls)) b-rows
-    (reports-read reportCalls 0 (b .state) (b .rows) y b-keeps
-    (ap (λ (r : OpenedReceiver). r .receiver .due) (reporting.opened-receiver s ok receiverRows receiver-full))) in (
+    subst (λ (rows : List ℕ). Forall₂ SameReport (reports y rows reportCalls) (reportsBytes opening (b .state) (b .rows) reportCalls)) b-rows
+    (reports-read reportCalls opening (b .state) (b .rows) y b-keeps
+    (ap (λ (r : OpenedReceiver). r .receiver .due) (reporting.opened-receiver s opening receiverRows opens))) in (
       a-reply,
       b-reply,
       λ own.
-          holds s sent told
-          (demand3 s ok senderRows receiverRows sender-full receiver-full sendCalls bytes reportCalls (faithful s sent told own)),
+          holds s opening sent told
+          (demand3 s ok opening in-time senderRows receiverRows sender-full receiver-full sendCalls bytes reportCalls
+          (faithful s opening sent told own)),
     )

@@ -1,19 +1,20 @@
 -- What each way out of a call gives back: where the state gives a cause, that refusal; else what protocol's call leaves.
-use mathlib.Core.Path.{_≡_, refl, ap, _∙_}
+use mathlib.Core.Path.{_≡_, refl, sym, ap, _∙_}
 use mathlib.Core.Bool.{Bool, true, false, cond, not, _&&_}
 use mathlib.Core.List.{List, [], _∷_}
 use Prim.Native.Nat.{ℕ}
-use lib.Dec.{eqb}
+use lib.Dec.{eqb, ltb}
 use lib.ListN.{length, drop}
 use Rattle.galois.proofs.Cases.{is-true}
 use Rattle.code.specs.declared.settings.Settings.{Settings}
 use Rattle.code.specs.Settings.{accepted}
 use Rattle.protocol.specs.declared.Cause.{Cause}
-use Rattle.protocol.specs.declared.Cause.the-variants.{BadSettings, BadLength}
-use Rattle.protocol.specs.Lengths.{senderLen, receiverLen}
+use Rattle.protocol.specs.declared.Cause.the-variants.{BadSettings, BadLength, LateOpening}
+use Rattle.protocol.specs.Lengths.{lastSlot, senderLen, receiverLen}
 use Rattle.protocol.specs.declared.Answer.{Answer}
 use Rattle.protocol.specs.declared.Answer.the-variants as answer
-use Rattle.protocol.specs.Causes.{numberOf, row, firstOf, sendTable, lossTable, frameTable, openCause, sendCause, lossCause, frameCause, frameCauseOf}
+use Rattle.protocol.specs.Causes.{numberOf, row, firstOf, openTable, sendTable, lossTable, frameTable}
+use Rattle.protocol.specs.Causes.{openCause, openReceiverCause, sendCause, lossCause, frameCause, frameCauseOf}
 use Rattle.protocol.specs.Calls.{OpenedSender, OpenedReceiver, Sent, Reported, openSenderOf, sendOf, openReceiverOf, movedOn, heardOf, lossOf}
 use Rattle.protocol.specs.Histories.{isAccepted, accepts}
 use Rattle.protocol.proofs.CauseTables.{followedBy, one-below}
@@ -21,7 +22,7 @@ use Rattle.protocol.proofs.ReportRows.{moved-accepts}
 use Rattle.frames.specs.Fields.{settingsAt}
 use Rattle.state.specs.State.{senderEnd, receiverEnd, senderBytes, receiverBytes, saved, stateLen, senderIn, receiverIn, stateTable, stateCause}
 use Rattle.protocol.specs.Numbers.{answerNumber, replyNumber}
-use Rattle.library.specs.Causes.{openBytesCause, sendBytesCause, heardBytesCause, lostBytesCause}
+use Rattle.library.specs.Causes.{openBytesTable, openBytesCause, openReceiverBytesCause, sendBytesCause, heardBytesCause, lostBytesCause}
 use Rattle.library.specs.Calls.{settingsOf, lengthFor, Opening, openSenderBytes, openReceiverBytes, Sending, sendBytes, Reporting, reportedBytes, heardBytes, lostBytes}
 
 -- ---- lengths
@@ -48,6 +49,21 @@ open-cause s size state rows = go (accepted s) (eqb (length state) stateLen)
     go false q = refl
     go true false = refl
     go true true = refl
+
+-- two answers after a first one
+in-turn : (a b c : Answer) → followedBy (followedBy a b) c ≡ followedBy a (followedBy b c)
+in-turn answer.Accepted b c = refl
+in-turn (answer.Refused e) b c = refl
+
+pub open-receiver-cause : (s : Settings) (slot : ℕ) (state rows : List ℕ)
+    → openReceiverBytesCause s slot state rows ≡ followedBy (openCause s stateLen state) (openReceiverCause s slot rows)
+unfolding openBytesCause openReceiverBytesCause openCause openReceiverCause
+open-receiver-cause s slot state rows =
+    let late = row (ltb lastSlot slot) LateOpening ∷ [] in
+    one-below (openBytesTable s (receiverLen s) state rows) late
+    ∙ ap (λ (a : Answer). followedBy a (firstOf late)) (open-cause s (receiverLen s) state rows)
+    ∙ in-turn (openCause s stateLen state) (openCause s (receiverLen s) rows) (firstOf late)
+    ∙ ap (followedBy (openCause s stateLen state)) (sym (one-below (openTable s (receiverLen s) rows) late))
 
 -- the cause that the state gives, else that of protocol's call on what it keeps
 module _ (state rows message : List ℕ) where
@@ -100,20 +116,20 @@ module _ (settings state rows : List ℕ) where
       go answer.Accepted e = rw (open-cause s (senderLen s) state rows, none, e, openSenderBytes, openSenderOf, e, openSenderOf)
       go (answer.Refused c) e = rw (open-cause s (senderLen s) state rows, none, e, openSenderBytes, openSenderOf)
 
-  pub receiver-caused : (c : Cause) → openCause s stateLen state ≡ answer.Refused c
-      → record { reply = numberOf c; state = state; rows = rows } ≡ openReceiverBytes settings state rows
+  pub receiver-caused : (slot : ℕ) (c : Cause) → openCause s stateLen state ≡ answer.Refused c
+      → record { reply = numberOf c; state = state; rows = rows } ≡ openReceiverBytes settings slot state rows
   unfolding settingsOf openReceiverBytes
-  receiver-caused c e = rw (open-cause s (receiverLen s) state rows, e, openReceiverBytes)
+  receiver-caused slot c e = rw (open-receiver-cause s slot state rows, e, openReceiverBytes)
 
-  pub receiver-uncaused : openCause s stateLen state ≡ answer.Accepted
-      → receiverLeft state (openReceiverOf s rows) ≡ openReceiverBytes settings state rows
+  pub receiver-uncaused : (slot : ℕ) → openCause s stateLen state ≡ answer.Accepted
+      → receiverLeft state (openReceiverOf s slot rows) ≡ openReceiverBytes settings slot state rows
   unfolding settingsOf openReceiverOf openReceiverBytes
-  receiver-uncaused none = go (openCause s (receiverLen s) rows) refl
+  receiver-uncaused slot none = go (openReceiverCause s slot rows) refl
     where
-      go : (f : Answer) → openCause s (receiverLen s) rows ≡ f
-          → receiverLeft state (openReceiverOf s rows) ≡ openReceiverBytes settings state rows
-      go answer.Accepted e = rw (open-cause s (receiverLen s) state rows, none, e, openReceiverBytes, openReceiverOf, e, openReceiverOf)
-      go (answer.Refused c) e = rw (open-cause s (receiverLen s) state rows, none, e, openReceiverBytes, openReceiverOf)
+      go : (f : Answer) → openReceiverCause s slot rows ≡ f
+          → receiverLeft state (openReceiverOf s slot rows) ≡ openReceiverBytes settings slot state rows
+      go answer.Accepted e = rw (open-receiver-cause s slot state rows, none, e, openReceiverBytes, openReceiverOf, e, openReceiverOf)
+      go (answer.Refused c) e = rw (open-receiver-cause s slot state rows, none, e, openReceiverBytes, openReceiverOf)
 
 -- ---- a send
 

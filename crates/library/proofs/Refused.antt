@@ -7,18 +7,18 @@ use Rattle.code.specs.declared.settings.Settings.{Settings}
 use Rattle.protocol.specs.declared.Cause.{Cause}
 use Rattle.protocol.specs.declared.Answer.{Answer}
 use Rattle.protocol.specs.declared.Answer.the-variants as answer
-use Rattle.protocol.specs.Lengths.{senderLen, receiverLen}
-use Rattle.protocol.specs.Causes.{numberOf, Row, firstOf, openCause, sendCause, lossCause, frameCause}
+use Rattle.protocol.specs.Lengths.{senderLen}
+use Rattle.protocol.specs.Causes.{numberOf, Row, firstOf, openCause, openReceiverCause, sendCause, lossCause, frameCause}
 use Rattle.protocol.specs.Calls.{openSenderOf, openReceiverOf, sendOf, heardOf, lossOf}
 use Rattle.protocol.proofs.CauseTables.{both-clear}
 use Rattle.protocol.proofs.NumberLaws.{accepted-number}
 use Rattle.protocol.proofs.Refusals.{Comes, number-first, number-refused, moved-number}
 use Rattle.state.specs.State.{senderEnd, receiverEnd, stateLen, senderIn, receiverIn, stateCause}
-use Rattle.library.specs.Causes.{openBytesTable, sendBytesTable, heardBytesTable, lostBytesTable}
-use Rattle.library.specs.Causes.{openBytesCause, sendBytesCause, heardBytesCause, lostBytesCause}
+use Rattle.library.specs.Causes.{openBytesTable, openReceiverBytesTable, sendBytesTable, heardBytesTable, lostBytesTable}
+use Rattle.library.specs.Causes.{openBytesCause, openReceiverBytesCause, sendBytesCause, heardBytesCause, lostBytesCause}
 use Rattle.library.specs.Calls.{settingsOf, Opening, openSenderBytes, openReceiverBytes, Sending, sendBytes, Reporting, heardBytes, lostBytes}
 use Rattle.library.specs.Refusals.{RefusesBytes, Demand1Bytes}
-use Rattle.library.proofs.Outcomes.{open-cause, send-cause, heard-cause, lost-cause}
+use Rattle.library.proofs.Outcomes.{open-cause, open-receiver-cause, send-cause, heard-cause, lost-cause}
 
 -- ---- the openings
 
@@ -39,12 +39,13 @@ module _ (settings state rows : List ℕ) where
       rw (e, openSenderBytes, none, openSenderOf) accepted-number
   sender-opens (answer.Refused c) e = rw (e, openSenderBytes)
 
-  receiver-opens : (a : Answer) → openBytesCause s (receiverLen s) state rows ≡ a → Opens state rows (openReceiverBytes settings state rows) a
+  receiver-opens : (slot : ℕ) (a : Answer) → openReceiverBytesCause s slot state rows ≡ a
+      → Opens state rows (openReceiverBytes settings slot state rows) a
   unfolding openReceiverBytes openReceiverOf
-  receiver-opens answer.Accepted e =
-      let none = both-clear (openCause s stateLen state) (openCause s (receiverLen s) rows) (sym (open-cause s (receiverLen s) state rows) ∙ e) .1 in
+  receiver-opens slot answer.Accepted e =
+      let none = both-clear (openCause s stateLen state) (openReceiverCause s slot rows) (sym (open-receiver-cause s slot state rows) ∙ e) .1 in
       rw (e, openReceiverBytes, none, openReceiverOf) accepted-number
-  receiver-opens (answer.Refused c) e = rw (e, openReceiverBytes)
+  receiver-opens slot (answer.Refused c) e = rw (e, openReceiverBytes)
 
 opening-stays : {state rows : List ℕ} {r : Opening} (c : Cause) → r ≡ unopened state rows c → (r .state ≡ state) × (r .rows ≡ rows)
 opening-stays c e = (ap (λ (r : Opening). r .state) e, ap (λ (r : Opening). r .rows) e)
@@ -104,18 +105,18 @@ refuses reply refusal r says rs by stays = record {
 }
 
 pub demand1-bytes : Demand1Bytes
-unfolding openBytesCause sendBytesCause heardBytesCause lostBytesCause
+unfolding openBytesCause openReceiverBytesCause sendBytesCause heardBytesCause lostBytesCause
 demand1-bytes = record {
   open-sender = λ settings state rows.
       let s : Settings = settingsOf settings in
       refuses (λ (r : Opening). r .reply) (unopened state rows) (openSenderBytes settings state rows) (λ c. refl)
       (openBytesTable s (senderLen s) state rows)
       (sender-opens settings state rows (openBytesCause s (senderLen s) state rows) refl) opening-stays;
-  open-receiver = λ settings state rows.
+  open-receiver = λ settings slot state rows.
       let s : Settings = settingsOf settings in
-      refuses (λ (r : Opening). r .reply) (unopened state rows) (openReceiverBytes settings state rows) (λ c. refl)
-      (openBytesTable s (receiverLen s) state rows)
-      (receiver-opens settings state rows (openBytesCause s (receiverLen s) state rows) refl) opening-stays;
+      refuses (λ (r : Opening). r .reply) (unopened state rows) (openReceiverBytes settings slot state rows) (λ c. refl)
+      (openReceiverBytesTable s slot state rows)
+      (receiver-opens settings state rows slot (openReceiverBytesCause s slot state rows) refl) opening-stays;
   send = λ state rows message frame.
       refuses (λ (r : Sending). r .reply) (unsent state rows frame) (sendBytes state rows message frame) (λ c. refl)
       (sendBytesTable state rows message frame)

@@ -5,14 +5,14 @@ use mathlib.Core.List.{List}
 use Prim.Native.Nat.{ℕ}
 use Rattle.code.specs.declared.settings.Settings.{Settings}
 use Rattle.code.specs.Settings.{accepted}
-use Rattle.protocol.specs.Lengths.{senderLen, receiverLen}
+use Rattle.protocol.specs.Lengths.{senderLen}
 use Rattle.protocol.specs.declared.Answer.the-variants as answer
 use Rattle.protocol.specs.Causes.{numberOf}
 use Rattle.protocol.specs.Calls.{OpenedSender, OpenedReceiver, Sent, Reported, openSenderOf, sendOf, openReceiverOf, heardOf, lossOf}
 use Rattle.frames.specs.Fields.{settingsAt}
 use Rattle.state.specs.State.{senderBytes, receiverBytes, senderIn, receiverIn}
 use Rattle.protocol.specs.Numbers.{answerNumber, replyNumber}
-use Rattle.library.specs.Causes.{openBytesCause, sendBytesCause, heardBytesCause, lostBytesCause}
+use Rattle.library.specs.Causes.{openBytesCause, openReceiverBytesCause, sendBytesCause, heardBytesCause, lostBytesCause}
 
 -- ---- lengths
 
@@ -57,13 +57,13 @@ openedReceiver r = record {
   rows = r .rows;
 }
 
--- the opening of a receiver
-unfoldable pub openReceiverBytes : List ℕ → List ℕ → List ℕ → Opening
-openReceiverBytes settings state rows =
+-- the opening of a receiver at this slot
+unfoldable pub openReceiverBytes : List ℕ → ℕ → List ℕ → List ℕ → Opening
+openReceiverBytes settings slot state rows =
     let s : Settings = settingsOf settings in
-    elim (openBytesCause s (receiverLen s) state rows) [
+    elim (openReceiverBytesCause s slot state rows) [
       | answer.Refused c ↦ record { reply = numberOf c; state = state; rows = rows }
-      | answer.Accepted ↦ openedReceiver (openReceiverOf s rows)
+      | answer.Accepted ↦ openedReceiver (openReceiverOf s slot rows)
     ]
 
 -- ---- sends

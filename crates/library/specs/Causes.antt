@@ -1,13 +1,14 @@
--- Why a call of the static library says no: document 01's causes, a table for each call in the order of checking. A call that starts from a
+-- Why a call of the static library says no: the papers' causes, a table for each call in the order of checking. A call that starts from a
 -- state meets the causes of the state's bytes first, and then those of protocol's call on what they keep.
 use mathlib.Core.Bool.{not, _&&_}
 use mathlib.Core.List.{List, [], _∷_, _++_}
 use Prim.Native.Nat.{ℕ}
-use lib.Dec.{eqb}
+use lib.Dec.{eqb, ltb}
 use lib.ListN.{length}
 use Rattle.code.specs.declared.settings.Settings.{Settings}
 use Rattle.code.specs.Settings.{accepted}
-use Rattle.protocol.specs.declared.Cause.the-variants.{BadSettings, BadLength}
+use Rattle.protocol.specs.Lengths.{lastSlot, receiverLen}
+use Rattle.protocol.specs.declared.Cause.the-variants.{BadSettings, BadLength, LateOpening}
 use Rattle.protocol.specs.declared.Answer.{Answer}
 use Rattle.protocol.specs.Causes.{Row, row, firstOf, sendTable, lossTable, frameTable}
 use Rattle.state.specs.State.{senderEnd, receiverEnd, stateLen, senderIn, receiverIn, stateTable}
@@ -18,6 +19,10 @@ openBytesTable s size state rows =
     row (not (accepted s)) BadSettings
     ∷ row (not (eqb (length state) stateLen && eqb (length rows) size)) BadLength
     ∷ []
+
+-- that of a receiver at this slot meets 7 as well
+abbrev pub openReceiverBytesTable : Settings → ℕ → List ℕ → List ℕ → List Row
+openReceiverBytesTable s slot state rows = openBytesTable s (receiverLen s) state rows ++ (row (ltb lastSlot slot) LateOpening ∷ [])
 
 -- a send
 abbrev pub sendBytesTable : List ℕ → List ℕ → List ℕ → List ℕ → List Row
@@ -34,6 +39,9 @@ lostBytesTable state rows message = stateTable receiverEnd state ++ lossTable (r
 -- what each table says
 unfoldable pub openBytesCause : Settings → ℕ → List ℕ → List ℕ → Answer
 openBytesCause s size state rows = firstOf (openBytesTable s size state rows)
+
+unfoldable pub openReceiverBytesCause : Settings → ℕ → List ℕ → List ℕ → Answer
+openReceiverBytesCause s slot state rows = firstOf (openReceiverBytesTable s slot state rows)
 
 unfoldable pub sendBytesCause : List ℕ → List ℕ → List ℕ → List ℕ → Answer
 sendBytesCause state rows message frame = firstOf (sendBytesTable state rows message frame)

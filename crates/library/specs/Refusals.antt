@@ -6,10 +6,10 @@ use mathlib.Core.List.{List}
 use Prim.Native.Nat.{ℕ}
 use Rattle.code.specs.declared.settings.Settings.{Settings}
 use Rattle.protocol.specs.declared.Cause.{Cause}
-use Rattle.protocol.specs.Lengths.{senderLen, receiverLen}
+use Rattle.protocol.specs.Lengths.{senderLen}
 use Rattle.protocol.specs.Causes.{numberOf, Row}
 use Rattle.protocol.specs.Refusals.{First}
-use Rattle.library.specs.Causes.{openBytesTable, sendBytesTable, heardBytesTable, lostBytesTable}
+use Rattle.library.specs.Causes.{openBytesTable, openReceiverBytesTable, sendBytesTable, heardBytesTable, lostBytesTable}
 use Rattle.library.specs.Calls.{settingsOf, Opening, openSenderBytes, openReceiverBytes, Sending, sendBytes}
 use Rattle.library.specs.Calls.{Reporting, heardBytes, lostBytes}
 
@@ -24,10 +24,10 @@ pub record Demand1Bytes : Type 0 where
       → let s : Settings = settingsOf settings in
       let r : Opening = openSenderBytes settings state rows in
       RefusesBytes (openBytesTable s (senderLen s) state rows) (r .reply) ((r .state ≡ state) × (r .rows ≡ rows))
-  pub open-receiver : (settings state rows : List ℕ)
+  pub open-receiver : (settings : List ℕ) (slot : ℕ) (state rows : List ℕ)
       → let s : Settings = settingsOf settings in
-      let r : Opening = openReceiverBytes settings state rows in
-      RefusesBytes (openBytesTable s (receiverLen s) state rows) (r .reply) ((r .state ≡ state) × (r .rows ≡ rows))
+      let r : Opening = openReceiverBytes settings slot state rows in
+      RefusesBytes (openReceiverBytesTable s slot state rows) (r .reply) ((r .state ≡ state) × (r .rows ≡ rows))
   pub send : (state rows message frame : List ℕ)
       → let r : Sending = sendBytes state rows message frame in
       RefusesBytes (sendBytesTable state rows message frame) (r .reply)

@@ -2,7 +2,7 @@
 use mathlib.Core.Path.{_≡_, refl, ap}
 use mathlib.Core.Bool.{Bool, true, false}
 use mathlib.Core.List.{List, _∷_, _++_, append-nil}
-use Prim.Native.Nat.{ℕ, zero, suc, _+_, _-_, _*_, _/_, _%_, _≤_, _<_}
+use Prim.Native.Nat.{ℕ, zero, suc, _+_, _-_, _*_, _/_, _%_, _≤_, _<_, zero-le}
 use native.Mathlib.Nat.{div-add-mod', suc-mul}
 use native.Mathlib.Omega.{arith}
 use lib.Dec.{T}
@@ -12,11 +12,10 @@ use Rattle.code.specs.declared.settings.Settings.{Settings}
 use Rattle.code.specs.Settings.{accepted}
 use Rattle.protocol.specs.declared.Receiver.{Receiver}
 use Rattle.protocol.specs.declared.Answer.the-variants as answer
-use Rattle.protocol.specs.Lengths.{messageLen, frameLen, rowCount, receiverLen}
+use Rattle.protocol.specs.Lengths.{messageLen, frameLen, receiverLen}
 use Rattle.protocol.specs.States.{openedReceiver, reportedOn}
-use Rattle.protocol.specs.Rows.{joined}
 use Rattle.protocol.specs.declared.Answer.{Answer}
-use Rattle.protocol.specs.Calls.{receivedZeros, Reported, lossOf, heardOf}
+use Rattle.protocol.specs.Calls.{openedRows, Reported, lossOf, heardOf}
 use Rattle.protocol.proofs.ReportChain.{opened-receiver}
 use Rattle.frames.specs.Fields.{slotIn}
 use Rattle.stops.specs.Stops.{frameStop}
@@ -136,10 +135,11 @@ pub from-start : (recording rows message : List ℕ) (s : Settings) → T (accep
 unfolding beginOf playedFrom
 from-start recording rows message s ok whole rows-exact message-exact =
     let frames : ℕ = length recording / frameLen s in
+    let zeros : List ℕ = replicate (receiverLen s) 0 in
     rw (
-      opened-receiver s ok rows rows-exact,
-      opened-receiver s ok (replicate (receiverLen s) 0) (length-replicate (receiverLen s) 0),
+      opened-receiver s 0 rows record { settings = ok; exact = rows-exact; in-time = zero-le },
+      opened-receiver s 0 zeros record { settings = ok; exact = length-replicate (receiverLen s) 0; in-time = zero-le },
       message-exact,
     )
-    (pieces-steps recording frames 0 (openedReceiver s) (joined (rowCount s) (λ r. receivedZeros s)) (replicate (messageLen s) 0)
+    (pieces-steps recording frames 0 (openedReceiver s 0) (openedRows s 0) (replicate (messageLen s) 0)
     (omega (arith, div-add-mod' (length recording) (frameLen s))))

@@ -48,10 +48,10 @@ played (frame ∷ frames) x rows message =
           skipped (slotIn frame - x .due) (λ y rows' message'. andThen y (heardOf y rows' frame message') (played frames)) x rows message
     ]
 
--- a recording that passes, played by a receiver that is opened for it
+-- a recording that passes, played by a receiver that is opened for it at slot 0
 unfoldable pub playedFrom : Settings → List ℕ → List ℕ
 playedFrom s recording =
-    let opened : OpenedReceiver = openReceiverOf s (replicate (receiverLen s) 0) in
+    let opened : OpenedReceiver = openReceiverOf s 0 (replicate (receiverLen s) 0) in
     played (pieces (length recording / frameLen s) (frameLen s) recording) (opened .receiver) (opened .rows) (replicate (messageLen s) 0)
 
 -- what a recording prints; an empty one prints nothing

@@ -16,12 +16,12 @@ use Rattle.code.specs.Settings.{delayOf, kOf, nOf}
 use Rattle.repair.specs.Fair.{lostPosition}
 use Rattle.protocol.specs.Lengths.{bodyLen, rowLen}
 use Rattle.protocol.specs.Verdict.{rowAt, arrived, reportedAt}
-use Rattle.protocol.specs.Calls.{receivedZeros}
+use Rattle.protocol.specs.Calls.{receivedZeros, rowBefore}
 use Rattle.protocol.specs.TwoLists.{heard, ReportMade, rowOf}
+use Rattle.protocol.specs.Histories.{lostSince}
 use Rattle.protocol.specs.Meaning.{Came}
 use Rattle.protocol.proofs.Receipts.{due-from}
-use Rattle.protocol.proofs.SlotReports.{lostSince}
-use Rattle.protocol.proofs.ReceivedRows.{Reached, rowBefore}
+use Rattle.protocol.proofs.ReceivedRows.{Reached}
 use Rattle.protocol.proofs.SlotRows.{slotRow, row-says, flag-says, row-reported, row-early, Became, became}
 
 -- position p of lane v stands in a row

@@ -12,11 +12,12 @@ use Rattle.galois.proofs.Cases.{and-left, and-right}
 use Rattle.code.specs.declared.settings.Settings.{Settings}
 use Rattle.code.specs.Settings.{accepted}
 use Rattle.protocol.specs.declared.Cause.{Cause}
-use Rattle.protocol.specs.declared.Cause.the-variants.{BadSettings, BadLength, PastLastSlot}
+use Rattle.protocol.specs.declared.Cause.the-variants.{BadSettings, BadLength, PastLastSlot, LateOpening}
 use Rattle.protocol.specs.declared.Answer.{Answer}
 use Rattle.protocol.specs.declared.Answer.the-variants as answer
-use Rattle.protocol.specs.Lengths.{lastSlot, messageLen, frameLen, exactly, exactlyFramed}
-use Rattle.protocol.specs.Causes.{numberOf, check, Row, firstOf, openTable, slotTable, openCause, slotCause}
+use Rattle.protocol.specs.Lengths.{lastSlot, messageLen, frameLen, receiverLen, exactly, exactlyFramed}
+use Rattle.protocol.specs.Causes.{numberOf, check, Row, firstOf, openTable, openReceiverTable, slotTable}
+use Rattle.protocol.specs.Causes.{openCause, openReceiverCause, slotCause}
 
 -- where a table finds nothing, its first condition fails and the rest finds nothing
 pub check-clear : (b : Bool) (c : Cause) (rest : Answer) → check b c rest ≡ answer.Accepted → (b ≡ false) × (rest ≡ answer.Accepted)
@@ -79,6 +80,28 @@ pub open-exact : (s : Settings) (size : ℕ) (rows : List ℕ) → openCause s s
 unfolding openCause
 open-exact s size rows e =
     eqb→eq (length rows) size (passes (eqb (length rows) size) (none-holds (openTable s size rows) e BadLength))
+
+-- the opening of a receiver asks for a slot up to the last one as well
+pub record OpensAt (s : Settings) (slot : ℕ) (rows : List ℕ) : Type 0 where
+  pub settings : T (accepted s)
+  pub exact : length rows ≡ receiverLen s
+  pub in-time : slot ≤ lastSlot
+
+module _ (s : Settings) (slot : ℕ) (rows : List ℕ) where
+  pub receiver-clear : OpensAt s slot rows → openReceiverCause s slot rows ≡ answer.Accepted
+  unfolding openReceiverCause
+  receiver-clear h =
+      rw (fails (accepted s) (h .settings), eq-eqb (length rows) (receiverLen s) (h .exact), le-ltb lastSlot slot (h .in-time))
+
+  pub receiver-open : openReceiverCause s slot rows ≡ answer.Accepted → OpensAt s slot rows
+  unfolding openReceiverCause
+  receiver-open e =
+      let none = none-holds (openReceiverTable s slot rows) e in
+      record {
+        settings = passes (accepted s) (none BadSettings);
+        exact = eqb→eq (length rows) (receiverLen s) (passes (eqb (length rows) (receiverLen s)) (none BadLength));
+        in-time = ltb-false lastSlot slot (none LateOpening);
+      }
 
 -- ---- a call in a slot
 

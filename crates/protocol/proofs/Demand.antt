@@ -3,7 +3,7 @@ use mathlib.Core.Path.{_≡_, refl, sym, ap, _∙_, subst, subst⁻¹}
 use mathlib.Core.Bool.{Bool, true, false, not}
 use mathlib.Core.Logic.{⊎-elim}
 use mathlib.Core.List.{List, List·Memᴰ}
-use Prim.Native.Nat.{ℕ, _+_, _-_, _≤_, _<_, zero-le}
+use Prim.Native.Nat.{ℕ, _+_, _-_, _≤_, _<_}
 use native.Mathlib.Omega.{arith}
 use lib.Dec.{T}
 use lib.ListN.{length}
@@ -19,16 +19,16 @@ use Rattle.protocol.specs.declared.Reply.the-variants as reply
 use Rattle.protocol.specs.Lengths.{messageLen}
 use Rattle.protocol.specs.Codewords.{source}
 use Rattle.protocol.specs.Verdict.{arrived}
-use Rattle.protocol.specs.Calls.{openReceiverOf}
+use Rattle.protocol.specs.Calls.{rowBefore, openReceiverOf}
 use Rattle.protocol.specs.TwoLists.{Send, SendMade, heard, ReportMade, reports}
-use Rattle.protocol.specs.Histories.{SentAs, messageAt, accepts, Heard, lostAt}
+use Rattle.protocol.specs.Histories.{SentAs, messageAt, accepts, Heard, lostSince}
 use Rattle.protocol.specs.Meaning.{Came}
 use Rattle.protocol.specs.Claim.{Faithful, Holds, Demand3}
 use Rattle.protocol.proofs.TrueWords.{symbol-early, symbol-slot}
 use Rattle.protocol.proofs.SenderList.{sentOf, opened-sent, once, message-at, sent-before, message-byte, sends-taken, sent-lengths, sent-header, frame-true}
-use Rattle.protocol.proofs.SlotReports.{lostSince, lost-from}
+use Rattle.protocol.proofs.CauseTables.{OpensAt}
 use Rattle.protocol.proofs.Received.{reports-taken, own-accepted, told-at}
-use Rattle.protocol.proofs.ReceivedRows.{Begun, Reached, heard-since, left-by, rowBefore, opened}
+use Rattle.protocol.proofs.ReceivedRows.{Begun, Reached, heard-since, left-by, opened}
 use Rattle.protocol.proofs.Arrivals.{known-if, known-came}
 use Rattle.protocol.proofs.Recovery.{Truthful, recovered, whole-message}
 
@@ -124,15 +124,14 @@ module _ (s : Settings) (ok : T (accepted s)) (calls : List Send) (bytes : (c : 
           tells .1 ∙ whole-message s (shape s ok) rows due t messages (lostSince d told) b true-rows whole full ∙ same,
         )
 
-  -- all of it, where no slot is before the first one
-  holds : lostSince d told ≡ lostAt told → Holds s sent told
-  holds all = record {
+  -- all of it
+  holds : Holds s d sent told
+  holds = record {
     sends-taken = sends-taken s ok calls;
     reports-taken = reports-taken (begun .chain);
     own-frame = own-frame;
     once = once s calls;
-    on-time = λ t r listed slot passed fair.
-        on-time t r listed slot passed (subst⁻¹ (λ (lost : ℕ → Bool). Fair s lost (t + 1 - kOf s) (t + delayOf s)) all fair);
+    on-time = on-time;
   }
 
 -- demand 3. Wrong definitions that agree with themselves, and what in the statement rules each out:
@@ -141,12 +140,14 @@ module _ (s : Settings) (ok : T (accepted s)) (calls : List Send) (bytes : (c : 
 -- - zero parity: `on-time` has losses, and a lost message is only in the parity; the words are those of G (`frame-true`)
 -- - a loss that leaves its row: `on-time` is about the rows as every earlier report left them
 -- - slots before 0 lost: `Fair` looks at slots from 0 on, so that message 0 may come after N losses from slot 0 on
+-- - slots before the opening taken as received: the words that fit would have zeros in them, and not be the true ones (`known-true`)
 -- - fairness that ignores W: `Fair` asks only for stretches of at most W slots; `fair-apart` has losses that are fair so and not else
 pub demand3 : Demand3
 unfolding Demand3
-demand3 s ok senderRows receiverRows sends-exact reports-exact sendCalls bytes reportCalls faithful =
+demand3 s ok opening in-time senderRows receiverRows sends-exact reports-exact sendCalls bytes reportCalls faithful =
     let same = opened-sent s senderRows sendCalls ok sends-exact in
-    let told = reports (openReceiverOf s receiverRows .receiver) (openReceiverOf s receiverRows .rows) reportCalls in
-    subst⁻¹ (λ (sent : List SendMade). Holds s sent told) same
-    (holds s ok sendCalls bytes told (opened s ok receiverRows reports-exact reportCalls)
-    (subst (λ (sent : List SendMade). Faithful sent told) same faithful) (λ i τ. lost-from 0 told τ zero-le i))
+    let told = reports (openReceiverOf s opening receiverRows .receiver) (openReceiverOf s opening receiverRows .rows) reportCalls in
+    let opens : OpensAt s opening receiverRows = record { settings = ok; exact = reports-exact; in-time = in-time } in
+    subst⁻¹ (λ (sent : List SendMade). Holds s opening sent told) same
+    (holds s ok sendCalls bytes told (opened s opening receiverRows opens reportCalls)
+    (subst (λ (sent : List SendMade). Faithful sent told) same faithful))

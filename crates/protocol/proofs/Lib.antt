@@ -19,6 +19,7 @@ pub mod HeaderBytes
 pub mod HeaderTests
 pub mod ReportCauses
 pub mod ReportSteps
+pub mod OpenedRows
 pub mod ReportChain
 pub mod Receipts
 pub mod SlotReports
@@ -27,6 +28,7 @@ pub mod ReceivedRows
 pub mod SlotRows
 pub mod Arrivals
 pub mod ReportMeaning
+pub mod Openings
 pub mod EarlyVerdict
 pub mod Recovery
 pub mod Demand

@@ -1,32 +1,30 @@
 -- The receiver's rows hold the last k + T slots: what they held before the first slot, then the row of each slot's accepted report.
 use mathlib.Core.Path.{_≡_, refl, sym, ap, _∙_, subst, subst⁻¹}
-use mathlib.Core.Bool.{Bool, true, false, cond, true≢false}
+use mathlib.Core.Bool.{false, true≢false}
 use mathlib.Core.List.{List, [], List·Memᴰ, List·Memᴰ·head, List·Memᴰ·tail, List·Memᴰ·not-nil, List·Memᴰ·cases-cons}
 use mathlib.Core.Logic.{⊎-elim}
 use mathlib.Core.Option.{Option, none, some}
-use Prim.Native.Nat.{ℕ, _+_, _-_, _%_, _≤_, _<_, zero-le}
-use native.Mathlib.Nat.{mod-eq-of-lt, mod-eq-sub-mod, mod-le}
+use Prim.Native.Nat.{ℕ, _+_, _≤_, _<_}
 use native.Mathlib.Omega.{arith}
-use lib.Dec.{T, ltb}
-use lib.ListN.{length, getD, replicate, length-replicate}
-use borrow.Author.Tests.{lt-ltb, le-ltb}
+use lib.Dec.{T}
+use lib.ListN.{getD}
 use Rattle.galois.proofs.Cases.{le-or-lt}
 use Rattle.code.specs.declared.settings.Settings.{Settings}
-use Rattle.code.specs.Settings.{accepted}
 use Rattle.code.proofs.Shape.{Shape, shape}
 use Rattle.protocol.specs.Lengths.{rowLen, rowCount, receiverLen}
-use Rattle.protocol.specs.Rows.{joined}
-use Rattle.protocol.specs.Calls.{Reported, movedOn, receivedZeros, openReceiverOf}
+use Rattle.protocol.specs.Calls.{Reported, movedOn, rowBefore, openedRows, openReceiverOf}
 use Rattle.protocol.specs.TwoLists.{Report, ReportMade, reports, rowOf}
-use Rattle.protocol.specs.Histories.{accepts, ReportedAs, Heard}
+use Rattle.protocol.specs.Histories.{accepts, ReportedAs, Heard, lostSince}
 use Rattle.protocol.specs.Claim.{NoCause}
-use Rattle.protocol.proofs.Rings.{since, since-first, since-slot, Ring, ring-start, ring-step}
+use Rattle.protocol.proofs.Rings.{since, since-first, since-slot, Ring, ring-step}
 use Rattle.protocol.proofs.ReportRows.{length-rowOf}
 use Rattle.protocol.proofs.ReportSteps.{Taken}
-use Rattle.protocol.proofs.ReportChain.{written, Finds, Chain, done, onward, again, some-rows, length-receivedZeros, opened-chain}
+use Rattle.protocol.proofs.ReportChain.{written, Finds, Chain, done, onward, again, some-rows, opened-chain}
+use Rattle.protocol.proofs.CauseTables.{OpensAt}
+use Rattle.protocol.proofs.OpenedRows.{begins}
 use Rattle.protocol.proofs.Received.{along, taken-of}
 use Rattle.protocol.proofs.Receipts.{callAt, call-of, due-from}
-use Rattle.protocol.proofs.SlotReports.{reported, reported-to, lostSince, lost-before, lost-from, either-way}
+use Rattle.protocol.proofs.SlotReports.{reported, reported-to, lost-before, lost-from, either-way}
 
 -- the rows hold what f says of the last k + T slots before due; f counts from k + T slots before slot 0
 abbrev pub Holding : Settings → List ℕ → ℕ → (ℕ → List ℕ) → Type 0
@@ -157,49 +155,12 @@ module _ {s : Settings} {first : ℕ → List ℕ} {d : ℕ} {told : List Report
 
 -- ---- the opening
 
--- the row of a slot before the first one: received zeros before slot 0, and lost from slot 0 on
-unfoldable pub rowBefore : Settings → ℕ → List ℕ
-rowBefore s σ = cond (ltb σ (rowCount s)) (receivedZeros s) (replicate (rowLen s) 0)
-
--- row r of a receiver that begins at slot d, which is lost exactly if r is below d
-unfoldable pub firstRow : Settings → ℕ → ℕ → List ℕ
-firstRow s d r = cond (ltb r d) (replicate (rowLen s) 0) (receivedZeros s)
-
-length-firstRow : (s : Settings) (d r : ℕ) → length (firstRow s d r) ≡ rowLen s
-unfolding firstRow
-length-firstRow s d r = go (ltb r d)
-  where
-    go : (b : Bool) → length (cond b (replicate (rowLen s) 0) (receivedZeros s)) ≡ rowLen s
-    go true = length-replicate (rowLen s) 0
-    go false = length-receivedZeros s
-
-first-before : (s : Settings) (d σ : ℕ) → d ≤ σ → σ < d + rowCount s → firstRow s d (σ % rowCount s) ≡ rowBefore s σ
-unfolding firstRow rowBefore
-first-before s d σ low high =
-    let R : ℕ = rowCount s in
-    ⊎-elim
-    (λ from.
-    let below : σ % R < d = rw (mod-eq-sub-mod from) (omega (arith, mod-le (σ - R) R)) in
-    rw (lt-ltb (σ % R) d below, le-ltb σ R from))
-    (λ early. rw (mod-eq-of-lt early, le-ltb σ d low, lt-ltb σ R early)) (le-or-lt R σ)
-
--- so its rows begin as the slots before it were
-begins : (s : Settings) (d : ℕ) → Holding s (joined (rowCount s) (firstRow s d)) d (rowBefore s)
-begins s d = ring-start (rowCount s) (rowLen s) (firstRow s d) d (rowBefore s) (length-firstRow s d) (first-before s d)
-
--- the rows that an opening makes are those of a receiver that begins at slot 0
-opened-rows : (s : Settings) → Holding s (joined (rowCount s) (λ r. receivedZeros s)) 0 (rowBefore s)
-unfolding firstRow
-opened-rows s =
-    let all : firstRow s 0 ≡ (λ r. receivedZeros s) = λ i r. cond (le-ltb r 0 zero-le i) (replicate (rowLen s) 0) (receivedZeros s) in
-    subst (λ (row : ℕ → List ℕ). Holding s (joined (rowCount s) row) 0 (rowBefore s)) all (begins s 0)
-
--- so the reports after it begin there
-pub opened : (s : Settings) → T (accepted s) → (rows : List ℕ) → length rows ≡ receiverLen s → (calls : List Report)
-    → Begun s (rowBefore s) 0 (reports (openReceiverOf s rows .receiver) (openReceiverOf s rows .rows) calls)
-opened s ok rows exact calls = record {
-  shape = shape s ok;
-  opening = joined (rowCount s) (λ r. receivedZeros s);
-  chain = opened-chain s ok rows exact calls;
-  held = opened-rows s;
+-- the reports after an opening begin at its slot
+pub opened : (s : Settings) (slot : ℕ) (rows : List ℕ) → OpensAt s slot rows → (calls : List Report)
+    → Begun s (rowBefore s) slot (reports (openReceiverOf s slot rows .receiver) (openReceiverOf s slot rows .rows) calls)
+opened s slot rows opens calls = record {
+  shape = shape s (opens .settings);
+  opening = openedRows s slot;
+  chain = opened-chain s slot rows opens calls;
+  held = begins s slot;
 }

@@ -14,10 +14,11 @@ use Rattle.protocol.specs.declared.Answer.{Answer}
 use Rattle.protocol.specs.declared.Answer.the-variants as answer
 use Rattle.protocol.specs.declared.Reply.{Reply}
 use Rattle.protocol.specs.declared.Reply.the-variants as reply
-use Rattle.protocol.specs.Lengths.{senderLen, receiverLen}
+use Rattle.protocol.specs.Lengths.{senderLen}
 use Rattle.protocol.specs.States.{noSender, noReceiver}
 use Rattle.protocol.specs.Causes.{numberOf, check, Row, firstOf}
-use Rattle.protocol.specs.Causes.{openTable, sendTable, lossTable, frameTable, openCause, sendCause, lossCause, frameCause, frameCauseOf}
+use Rattle.protocol.specs.Causes.{openTable, openReceiverTable, sendTable, lossTable, frameTable}
+use Rattle.protocol.specs.Causes.{openCause, openReceiverCause, sendCause, lossCause, frameCause, frameCauseOf}
 use Rattle.protocol.specs.Numbers.{answerNumber, replyNumber}
 use Rattle.protocol.specs.Calls.{OpenedSender, openSenderOf, Sent, sendOf, OpenedReceiver, openReceiverOf}
 use Rattle.protocol.specs.Calls.{Reported, movedOn, lossOf, heardOf}
@@ -93,11 +94,11 @@ module _ (s : Settings) (rows : List ℕ) where
   sender-opens answer.Accepted e = rw (e, openSenderOf) accepted-number
   sender-opens (answer.Refused c) e = rw (e, openSenderOf)
 
-  receiver-opens : (a : Answer) → openCause s (receiverLen s) rows ≡ a
-      → Comes (λ (r : OpenedReceiver). answerNumber (r .answer)) (noReceiverFor rows) (openReceiverOf s rows) a
+  receiver-opens : (slot : ℕ) (a : Answer) → openReceiverCause s slot rows ≡ a
+      → Comes (λ (r : OpenedReceiver). answerNumber (r .answer)) (noReceiverFor rows) (openReceiverOf s slot rows) a
   unfolding openReceiverOf
-  receiver-opens answer.Accepted e = rw (e, openReceiverOf) accepted-number
-  receiver-opens (answer.Refused c) e = rw (e, openReceiverOf)
+  receiver-opens slot answer.Accepted e = rw (e, openReceiverOf) accepted-number
+  receiver-opens slot (answer.Refused c) e = rw (e, openReceiverOf)
 
 -- ---- send
 
@@ -141,15 +142,15 @@ report-stays c e = (ap (λ (r : Reported). r .receiver) e, ap (λ (r : Reported)
 -- ---- demand 1
 
 pub demand1 : Demand1
-unfolding openCause sendCause lossCause frameCauseOf
+unfolding openCause openReceiverCause sendCause lossCause frameCauseOf
 demand1 = record {
   open-sender = λ s rows.
       refuses (λ (r : OpenedSender). answerNumber (r .answer)) (noSenderFor rows) (openSenderOf s rows) (λ c. refl)
       (openTable s (senderLen s) rows) tt (sender-opens s rows (openCause s (senderLen s) rows) refl)
       (λ c e. (ap (λ (r : OpenedSender). r .sender) e, ap (λ (r : OpenedSender). r .rows) e));
-  open-receiver = λ s rows.
-      refuses (λ (r : OpenedReceiver). answerNumber (r .answer)) (noReceiverFor rows) (openReceiverOf s rows) (λ c. refl)
-      (openTable s (receiverLen s) rows) tt (receiver-opens s rows (openCause s (receiverLen s) rows) refl)
+  open-receiver = λ s slot rows.
+      refuses (λ (r : OpenedReceiver). answerNumber (r .answer)) (noReceiverFor rows) (openReceiverOf s slot rows) (λ c. refl)
+      (openReceiverTable s slot rows) tt (receiver-opens s rows slot (openReceiverCause s slot rows) refl)
       (λ c e. (ap (λ (r : OpenedReceiver). r .receiver) e, ap (λ (r : OpenedReceiver). r .rows) e));
   send = λ x rows message frame.
       refuses (λ (r : Sent). answerNumber (r .answer)) (unsent x rows frame) (sendOf x rows message frame) (λ c. refl)

@@ -6,19 +6,20 @@ use Prim.Native.Nat.{ℕ, _+_, _%_, _<_}
 use native.Mathlib.Nat.{mod-lt}
 use native.Mathlib.Omega.{arith}
 use lib.Dec.{T}
-use lib.ListN.{length, length-replicate}
+use lib.ListN.{length}
 use Rattle.code.specs.declared.settings.Settings.{Settings}
 use Rattle.code.specs.Settings.{accepted}
 use Rattle.code.proofs.Shape.{Shape, shape}
 use Rattle.protocol.specs.declared.Receiver.{Receiver}
 use Rattle.protocol.specs.declared.Answer.the-variants as answer
-use Rattle.protocol.specs.Lengths.{bodyLen, rowLen, rowCount, receiverLen}
+use Rattle.protocol.specs.Lengths.{rowLen, rowCount, receiverLen}
 use Rattle.protocol.specs.States.{openedReceiver, reportedOn}
-use Rattle.protocol.specs.Rows.{putRow, joined}
-use Rattle.protocol.specs.Calls.{Reported, movedOn, receivedZeros, openReceiverOf}
+use Rattle.protocol.specs.Rows.{putRow}
+use Rattle.protocol.specs.Calls.{Reported, movedOn, openedRows, openReceiverOf}
 use Rattle.protocol.specs.TwoLists.{Report, reportOf, ReportMade, reports, rowOf}
-use Rattle.protocol.proofs.Rings.{length-putRow, length-joined}
-use Rattle.protocol.proofs.CauseTables.{open-clear}
+use Rattle.protocol.proofs.Rings.{length-putRow}
+use Rattle.protocol.proofs.CauseTables.{OpensAt, receiver-clear}
+use Rattle.protocol.proofs.OpenedRows.{length-openedRows}
 use Rattle.protocol.proofs.ReportRows.{length-rowOf}
 use Rattle.protocol.proofs.ReportSteps.{made, Taken, Stayed, step}
 
@@ -52,11 +53,6 @@ pub length-written : (s : Settings) (d : ℕ) (call : Report) (rows : List ℕ) 
 unfolding written receiverLen
 length-written s d call rows h full fits =
     length-putRow (rowCount s) (rowLen s) rows (rowOf s call) full fits (d % rowCount s) (mod-lt d (some-rows s h))
-
--- a row of received zeros has the rows' length
-pub length-receivedZeros : (s : Settings) → length (receivedZeros s) ≡ rowLen s
-unfolding receivedZeros rowLen
-length-receivedZeros s = omega (arith, length-replicate {A = ℕ} (bodyLen s) 0)
 
 -- the reports of a receiver are a chain from its slot due and these rows on
 abbrev Chained : Receiver → List ℕ → List ReportMade → Type 0
@@ -98,20 +94,15 @@ chain x ok rows (c ∷ cs) exact =
 
 -- ---- from the opening on
 
-module _ (s : Settings) (ok : T (accepted s)) where
-  -- opening makes slot 0 due, and the rows received zeros
-  pub opened-receiver : (rows : List ℕ) → length rows ≡ receiverLen s
-      → openReceiverOf s rows
-      ≡ record { answer = answer.Accepted; receiver = openedReceiver s; rows = joined (rowCount s) (λ r. receivedZeros s) }
+module _ (s : Settings) (slot : ℕ) (rows : List ℕ) (opens : OpensAt s slot rows) where
+  -- opening makes its slot due, and the rows those of the slots before it
+  pub opened-receiver : openReceiverOf s slot rows
+      ≡ record { answer = answer.Accepted; receiver = openedReceiver s slot; rows = openedRows s slot }
   unfolding openReceiverOf
-  opened-receiver rows exact = rw (open-clear s (receiverLen s) rows ok exact, openReceiverOf)
+  opened-receiver = rw (receiver-clear s slot rows opens, openReceiverOf)
 
-  -- the reports after an accepted opening are a chain from slot 0 and received zeros on
-  pub opened-chain : (rows : List ℕ) → length rows ≡ receiverLen s → (calls : List Report)
-      → Chain s 0 (joined (rowCount s) (λ r. receivedZeros s))
-      (reports (openReceiverOf s rows .receiver) (openReceiverOf s rows .rows) calls)
-  unfolding receiverLen
-  opened-chain rows exact calls =
-      rw (opened-receiver rows exact)
-      (chain (openedReceiver s) ok (joined (rowCount s) (λ r. receivedZeros s)) calls
-      (length-joined (rowLen s) (rowCount s) (λ r. receivedZeros s) (λ r. length-receivedZeros s)))
+  -- the reports after an accepted opening are a chain from its slot and these rows on
+  pub opened-chain : (calls : List Report)
+      → Chain s slot (openedRows s slot) (reports (openReceiverOf s slot rows .receiver) (openReceiverOf s slot rows .rows) calls)
+  opened-chain calls =
+      rw opened-receiver (chain (openedReceiver s slot) (opens .settings) (openedRows s slot) calls (length-openedRows s slot))

@@ -19,7 +19,7 @@ use Rattle.protocol.specs.declared.Answer.{Answer}
 use Rattle.protocol.specs.declared.Answer.the-variants as answer
 use Rattle.protocol.specs.Causes.{lossCause, frameCause}
 use Rattle.protocol.specs.Numbers.{replyNumber}
-use Rattle.protocol.specs.Calls.{Reported, messageDue, movedOn, lossOf, heardOf, openReceiverOf}
+use Rattle.protocol.specs.Calls.{Reported, rowBefore, messageDue, movedOn, lossOf, heardOf, openReceiverOf}
 use Rattle.protocol.specs.TwoLists.{Report, heard, missed, reportOf, rowOf, reports}
 use Rattle.protocol.specs.Histories.{accepts}
 use Rattle.protocol.specs.Meaning.{AllShare, Tells, AcceptedReport, Demand2Verdict}
@@ -27,7 +27,8 @@ use Rattle.protocol.proofs.NumberLaws.{reply-tells}
 use Rattle.protocol.proofs.VerdictMeaning.{verdict-clash, verdict-lost, verdict-else, whole-bytes, buffer-length, buffer-zeros}
 use Rattle.protocol.proofs.ReportSteps.{heard-moves, heard-stays, loss-moves, loss-stays}
 use Rattle.protocol.proofs.Received.{ByVerdict, by-verdict}
-use Rattle.protocol.proofs.ReceivedRows.{Reached, left-by, rowBefore, opened}
+use Rattle.protocol.proofs.ReceivedRows.{Reached, left-by, opened}
+use Rattle.protocol.proofs.CauseTables.{OpensAt}
 use Rattle.protocol.proofs.Arrivals.{known-came}
 
 -- ---- none yet
@@ -69,7 +70,7 @@ verdict-told s rows due t = go (noneFits s rows due t) (twoDiffer s rows due t)
     go false false e = omega arith
 
 moved-report : (x : Receiver) (call : Report) (rows : List ℕ)
-    → AcceptedReport (x .settings) (x .due) rows call (movedOn x (rowOf (x .settings) call) rows)
+    → AcceptedReport (x .settings) (x .opening) (x .due) rows call (movedOn x (rowOf (x .settings) call) rows)
 unfolding movedOn
 moved-report x call rows =
     let s = x .settings in
@@ -78,7 +79,7 @@ moved-report x call rows =
     let told : Reply = cond (ltb (x .due) (delayOf s)) reply.NoneYet (verdict s now (x .due + 1) t) in
     let none = none-by (ltb (x .due) (delayOf s)) (verdict s now (x .due + 1) t) (verdict-told s now (x .due + 1) t) in
     record {
-      moved = (refl, refl);
+      moved = (refl, refl, refl);
       written = refl;
       none-yet = (λ e. ltb→lt (x .due) (delayOf s) (none .0 e), λ h. none .1 (lt→ltb (x .due) (delayOf s) h));
       tells = λ u e.
@@ -113,12 +114,13 @@ accepted-moves x rows (missed message) ok = go (lossCause x rows message) refl
 pub demand2-verdict : Demand2Verdict
 demand2-verdict = record {
   by-rows = λ x rows call ok.
-      subst⁻¹ (AcceptedReport (x .settings) (x .due) rows call) (accepted-moves x rows call ok) (moved-report x call rows);
-  by-history = λ s ok rows exact calls r listed passed t slot i v p byte hi hv hp.
-      let told = reports (openReceiverOf s rows .receiver) (openReceiverOf s rows .rows) calls in
-      let reached : Reached s (rowBefore s) 0 told (r .after .rows) (t + delayOf s + 1)
-      = subst (λ (due : ℕ). Reached s (rowBefore s) 0 told (r .after .rows) (due + 1)) slot
-      (left-by (opened s ok rows exact calls) r listed passed) in
+      subst⁻¹ (AcceptedReport (x .settings) (x .opening) (x .due) rows call) (accepted-moves x rows call ok) (moved-report x call rows);
+  by-history = λ s ok opening in-time rows exact calls r listed passed t slot i v p byte hi hv hp.
+      let told = reports (openReceiverOf s opening rows .receiver) (openReceiverOf s opening rows .rows) calls in
+      let opens : OpensAt s opening rows = record { settings = ok; exact = exact; in-time = in-time } in
+      let reached : Reached s (rowBefore s) opening told (r .after .rows) (t + delayOf s + 1)
+      = subst (λ (due : ℕ). Reached s (rowBefore s) opening told (r .after .rows) (due + 1)) slot
+      (left-by (opened s opening rows opens calls) r listed passed) in
       let (says, came) = known-came reached t (omega arith) i p v hi hp hv byte in
       ((λ k. let (now, from) = says k in (omega arith, from)), λ (to, from). came (omega arith, from));
 }

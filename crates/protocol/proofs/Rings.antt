@@ -1,5 +1,5 @@
 -- A ring of R rows of one size: slot t sits in row t mod R. One lemma serves both ends, for any first contents.
-use mathlib.Core.Path.{_≡_, sym, ap, ap₂, _∙_, subst⁻¹}
+use mathlib.Core.Path.{_≡_, refl, sym, ap, ap₂, _∙_, subst⁻¹}
 use mathlib.Core.Bool.{cond}
 use mathlib.Core.Logic.{_≢_, ⊎-elim}
 use mathlib.Core.List.{List, _++_}
@@ -88,6 +88,13 @@ getD-joined size (suc m) f h (suc r) j hr hj =
     ap (λ (i : ℕ). getD (f 0 ++ joined m (λ r. f (suc r))) i 0) (omega (arith, suc-mul r size, h 0))
     ∙ getD-append-add (f 0) (joined m (λ r. f (suc r))) (r * size + j) 0
     ∙ getD-joined size m (λ r. f (suc r)) (λ r. h (suc r)) r j (le-of-suc-le-suc hr) hj
+
+-- the same rows
+pub joined-same : (m : ℕ) (f g : ℕ → List ℕ) → ((r : ℕ) → r < m → f r ≡ g r) → joined m f ≡ joined m g
+unfolding joined
+joined-same zero f g h = refl
+joined-same (suc m) f g h =
+    ap₂ _++_ (h 0 (omega arith)) (joined-same m (λ r. f (suc r)) (λ r. g (suc r)) (λ r hr. h (suc r) (omega arith)))
 
 -- ---- the ring
 

@@ -1,27 +1,25 @@
 -- Demand 3, of the calls that a program makes: `runs-are-lists` and `demand3-runs`, whose statements are in specs/Runs.antt.
 use mathlib.Core.Path.{_≡_, refl, sym, ap, _∙_, subst, subst⁻¹}
 use mathlib.Core.List.{List, [], _∷_, map, Memᴰ·of-map, List·Memᴰ}
-use mathlib.Core.Bool.{Bool, true, false, not}
 use Prim.Native.Nat.{ℕ}
-use native.Mathlib.Omega.{arith}
-use lib.Dec.{T, eqb}
 use lib.ListN.{length}
-use borrow.Author.Tests.{eqb-true}
 use Rattle.galois.specs.Byte.{Bytes}
 use Rattle.code.specs.declared.settings.Settings.{Settings}
-use Rattle.code.specs.Settings.{accepted}
 use Rattle.protocol.specs.declared.Sender.{Sender}
 use Rattle.protocol.specs.declared.Receiver.{Receiver}
-use Rattle.protocol.specs.declared.Cause.the-variants.{BadSettings, BadLength}
-use Rattle.protocol.specs.Lengths.{senderLen, receiverLen}
-use Rattle.protocol.specs.Causes.{openTable}
+use Rattle.protocol.specs.declared.Answer.{Answer}
+use Rattle.protocol.specs.declared.Answer.the-variants as answer
+use Rattle.protocol.specs.Lengths.{senderLen}
+use Rattle.protocol.specs.Causes.{Row, firstOf, openTable, openReceiverTable, openCause, openReceiverCause}
 use Rattle.protocol.specs.Numbers.{answerNumber}
 use Rattle.protocol.specs.Calls.{OpenedSender, openSenderOf, Sent, sendOf, OpenedReceiver, openReceiverOf, Reported}
 use Rattle.protocol.specs.TwoLists.{Send, SendMade, sends, Report, reportOf, ReportMade, reports}
-use Rattle.protocol.specs.Refusals.{First, Refuses}
+use Rattle.protocol.specs.Refusals.{Refuses}
 use Rattle.protocol.specs.Claim.{Faithful, Holds, Demand3}
 use Rattle.protocol.specs.Runs.{SenderRun, SenderOpened, ReceiverRun, ReceiverOpened, RunsAreLists, Demand3Runs}
-use Rattle.protocol.proofs.Refusals.{demand1}
+use Rattle.protocol.proofs.NumberLaws.{accepted-number}
+use Rattle.protocol.proofs.CauseTables.{open-exact, OpensAt, receiver-open}
+use Rattle.protocol.proofs.Refusals.{found-first, demand1}
 use Rattle.protocol.proofs.Demand.{demand3}
 
 -- ---- a run is a list
@@ -76,23 +74,16 @@ runs-are-lists = record {
 
 -- ---- demand 3
 
--- an opening that is accepted meets neither cause
-opening-free : (s : Settings) (size : ℕ) (rows : List ℕ) {number : ℕ} {Stays : Type 0} → Refuses (openTable s size rows) number Stays
-    → number ≡ 0 → T (accepted s) × (length rows ≡ size)
-opening-free s size rows {number} refuses none = go (accepted s) (eqb (length rows) size) refl refl
+-- the table of a call that is accepted finds no cause
+table-clear : (rs : List Row) {number : ℕ} {Stays : Type 0} → Refuses rs number Stays → number ≡ 0 → firstOf rs ≡ answer.Accepted
+table-clear rs {number} refuses none = go (firstOf rs) refl
   where
-    go : (a b : Bool) → accepted s ≡ a → eqb (length rows) size ≡ b → T (accepted s) × (length rows ≡ size)
-    go false b p q =
-        let one : number ≡ 1 = refuses .first BadSettings .1 (First.here (subst⁻¹ (λ (x : Bool). T (not x)) p tt) refl) in
-        absurd (omega arith)
-    go true false p q =
-        let two : number ≡ 2 = refuses .first BadLength .1
-        (First.later (λ h. subst (λ (x : Bool). T (not x)) p h) (First.here (subst⁻¹ (λ (x : Bool). T (not x)) q tt) refl)) in
-        absurd (omega arith)
-    go true true p q = (subst⁻¹ T p tt, eqb-true (length rows) size q)
+    go : (a : Answer) → firstOf rs ≡ a → firstOf rs ≡ answer.Accepted
+    go answer.Accepted e = e
+    go (answer.Refused c) e = absurd (accepted-number c (sym none ∙ refuses .first c .1 (found-first c rs e)))
 
-module _ (s : Settings) (sent : List SendMade) (told : List ReportMade) (a : SenderOpened s sent) (b : ReceiverOpened s told)
-    (bytes : (m : SendMade) → List·Memᴰ m sent → Bytes (m .call .message)) where
+module _ (s : Settings) (opening : ℕ) (sent : List SendMade) (told : List ReportMade) (a : SenderOpened s sent)
+    (b : ReceiverOpened s opening told) (bytes : (m : SendMade) → List·Memᴰ m sent → Bytes (m .call .message)) where
   abbrev sendCalls : List Send
   sendCalls = map (λ m. m .call) sent
 
@@ -109,7 +100,7 @@ module _ (s : Settings) (sent : List SendMade) (told : List ReportMade) (a : Sen
   sentList = sends (openSenderOf s (a .lent) .sender) (openSenderOf s (a .lent) .rows) sendCalls
 
   abbrev toldList : List ReportMade
-  toldList = reports (openReceiverOf s (b .lent) .receiver) (openReceiverOf s (b .lent) .rows) reportCalls
+  toldList = reports (openReceiverOf s opening (b .lent) .receiver) (openReceiverOf s opening (b .lent) .rows) reportCalls
 
   sent-listed : sent ≡ sentList
   sent-listed =
@@ -121,22 +112,27 @@ module _ (s : Settings) (sent : List SendMade) (told : List ReportMade) (a : Sen
       receiver-list (b .opened .receiver) (b .opened .rows) told (b .run)
       ∙ ap (λ (o : OpenedReceiver). reports (o .receiver) (o .rows) reportCalls) (b .ensured)
 
-  sender-free : T (accepted s) × (length (a .lent) ≡ senderLen s)
-  sender-free =
-      opening-free s (senderLen s) (a .lent) (demand1 .open-sender s (a .lent))
-      (ap (λ (o : OpenedSender). answerNumber (o .answer)) (sym (a .ensured)) ∙ a .accepted)
+  sender-exact : length (a .lent) ≡ senderLen s
+  unfolding openCause
+  sender-exact =
+      open-exact s (senderLen s) (a .lent)
+      (table-clear (openTable s (senderLen s) (a .lent)) (demand1 .open-sender s (a .lent))
+      (ap (λ (o : OpenedSender). answerNumber (o .answer)) (sym (a .ensured)) ∙ a .accepted))
 
-  receiver-free : T (accepted s) × (length (b .lent) ≡ receiverLen s)
-  receiver-free =
-      opening-free s (receiverLen s) (b .lent) (demand1 .open-receiver s (b .lent))
-      (ap (λ (o : OpenedReceiver). answerNumber (o .answer)) (sym (b .ensured)) ∙ b .accepted)
+  receiver-opens : OpensAt s opening (b .lent)
+  unfolding openReceiverCause
+  receiver-opens =
+      receiver-open s opening (b .lent)
+      (table-clear (openReceiverTable s opening (b .lent)) (demand1 .open-receiver s opening (b .lent))
+      (ap (λ (o : OpenedReceiver). answerNumber (o .answer)) (sym (b .ensured)) ∙ b .accepted))
 
-  run-holds : Faithful sent told → Holds s sent told
+  run-holds : Faithful sent told → Holds s opening sent told
   unfolding Demand3
   run-holds =
-      subst⁻¹ (λ (l : List SendMade). Faithful l told → Holds s l told) sent-listed
-      (subst⁻¹ (λ (l : List ReportMade). Faithful sentList l → Holds s sentList l) told-listed
-      (demand3 s (sender-free .0) (a .lent) (b .lent) (sender-free .1) (receiver-free .1) sendCalls send-bytes reportCalls))
+      let opens = receiver-opens in
+      subst⁻¹ (λ (l : List SendMade). Faithful l told → Holds s opening l told) sent-listed
+      (subst⁻¹ (λ (l : List ReportMade). Faithful sentList l → Holds s opening sentList l) told-listed
+      (demand3 s (opens .settings) opening (opens .in-time) (a .lent) (b .lent) sender-exact (opens .exact) sendCalls send-bytes reportCalls))
 
 pub demand3-runs : Demand3Runs
 unfolding Demand3Runs

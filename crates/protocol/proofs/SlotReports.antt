@@ -1,18 +1,18 @@
 -- Which slots of a chain were heard and which were lost: each slot up to that of an accepted report was one or the other.
 use mathlib.Core.Path.{_≡_, refl, sym, ap, _∙_}
-use mathlib.Core.Bool.{Bool, true, _||_}
+use mathlib.Core.Bool.{true}
 use mathlib.Core.List.{List, _∷_, List·Memᴰ, List·Memᴰ·head, List·Memᴰ·tail, List·Memᴰ·not-nil, List·Memᴰ·cases-cons}
 use mathlib.Core.Logic.{_⊎_, inl, inr, ⊎-elim}
 use mathlib.Core.Option.{Option, some}
 use Prim.Native.Nat.{ℕ, _+_, _≤_, _<_}
 use native.Mathlib.Nat.{eq-or-lt-of-le}
 use native.Mathlib.Omega.{arith}
-use lib.Dec.{T, ltb}
+use lib.Dec.{T}
 use borrow.Author.Tests.{lt-ltb, le-ltb}
 use Rattle.galois.proofs.Cases.{le-or-lt}
 use Rattle.code.specs.declared.settings.Settings.{Settings}
 use Rattle.protocol.specs.TwoLists.{Report, heard, missed, ReportMade}
-use Rattle.protocol.specs.Histories.{accepts, ReportedAs, Heard, ofLoss, lostAt}
+use Rattle.protocol.specs.Histories.{accepts, ReportedAs, Heard, ofLoss, lostAt, lostSince}
 use Rattle.protocol.proofs.ReportChain.{Chain, done, onward, again}
 use Rattle.protocol.proofs.Receipts.{callAt, lossIn, call-of, lost-call}
 
@@ -66,10 +66,6 @@ reported-to chain r listed ok τ low high =
     (λ before. reported chain r listed τ low before) (le-or-lt (r .before .due) τ)
 
 -- ---- lost or heard
-
--- slot τ counts as a loss: it is before slot d, the first one, or was reported as a loss
-unfoldable pub lostSince : ℕ → List ReportMade → ℕ → Bool
-lostSince d told τ = ltb τ d || lostAt told τ
 
 pub lost-before : (d : ℕ) (told : List ReportMade) (τ : ℕ) → τ < d → lostSince d told τ ≡ true
 unfolding lostSince

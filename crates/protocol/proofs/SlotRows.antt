@@ -12,12 +12,12 @@ use Rattle.code.specs.declared.settings.Settings.{Settings}
 use Rattle.code.specs.Settings.{delayOf, kOf}
 use Rattle.protocol.specs.Lengths.{rowLen, rowCount}
 use Rattle.protocol.specs.Verdict.{rowAt}
-use Rattle.protocol.specs.Calls.{receivedZeros}
+use Rattle.protocol.specs.Calls.{receivedZeros, rowBefore}
 use Rattle.protocol.specs.TwoLists.{Report, ReportMade, rowOf}
-use Rattle.protocol.specs.Histories.{ReportedAs, Heard}
+use Rattle.protocol.specs.Histories.{ReportedAs, Heard, lostSince}
 use Rattle.protocol.proofs.Rings.{since-first, since-slot}
-use Rattle.protocol.proofs.SlotReports.{call-as, lostSince, lost-before, lost-from, lost-as}
-use Rattle.protocol.proofs.ReceivedRows.{rowIn, rowOfSlot, history, Reached, rowBefore}
+use Rattle.protocol.proofs.SlotReports.{call-as, lost-before, lost-from, lost-as}
+use Rattle.protocol.proofs.ReceivedRows.{rowIn, rowOfSlot, history, Reached}
 
 -- the row of slot t + p - i
 abbrev pub slotRow : Settings → (ℕ → List ℕ) → ℕ → List ReportMade → ℕ → ℕ → ℕ → List ℕ

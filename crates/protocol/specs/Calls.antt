@@ -1,4 +1,4 @@
--- Document 01, "What is remembered" and "Why a call says no": each call as a function of the state and every lent list.
+-- Document 01, "What is remembered" and "Why a call says no", and document 02 §3: each call as a function of the state and every lent list.
 use mathlib.Core.Bool.{cond}
 use mathlib.Core.List.{List, _∷_}
 use Prim.Native.Nat.{ℕ, _+_, _-_, _%_}
@@ -12,12 +12,12 @@ use Rattle.protocol.specs.declared.Answer.{Answer}
 use Rattle.protocol.specs.declared.Answer.the-variants as answer
 use Rattle.protocol.specs.declared.Reply.{Reply}
 use Rattle.protocol.specs.declared.Reply.the-variants as reply
-use Rattle.protocol.specs.Lengths.{messageLen, bodyLen, senderLen, rowLen, rowCount, receiverLen}
+use Rattle.protocol.specs.Lengths.{messageLen, bodyLen, senderLen, rowLen, rowCount}
 use Rattle.protocol.specs.States.{openedSender, sentOn, noSender, openedReceiver, reportedOn, noReceiver}
 use Rattle.protocol.specs.Frame.{frameOf}
 use Rattle.protocol.specs.Rows.{putRow, joined}
 use Rattle.protocol.specs.Verdict.{verdict, bufferOf}
-use Rattle.protocol.specs.Causes.{openCause, sendCause, lossCause, frameCause}
+use Rattle.protocol.specs.Causes.{openCause, openReceiverCause, sendCause, lossCause, frameCause}
 
 -- ---- the sender
 
@@ -59,20 +59,29 @@ sendOf x rows message frame =
 unfoldable pub receivedZeros : Settings → List ℕ
 receivedZeros s = 1 ∷ replicate (bodyLen s) 0
 
+-- the row of a slot before the opening: lost, that is zeros, from slot 0 on, and received zeros before it. Here σ counts the slots from
+-- the (k + T)th before slot 0 on
+unfoldable pub rowBefore : Settings → ℕ → List ℕ
+rowBefore s σ = cond (ltb σ (rowCount s)) (receivedZeros s) (replicate (rowLen s) 0)
+
+-- the last slot before this one that sits in row r, counted so
+unfoldable pub lastIn : Settings → ℕ → ℕ → ℕ
+lastIn s slot r = slot + (r + (rowCount s - slot % rowCount s)) % rowCount s
+
+-- the rows of an opening: the last k + T slots before it, each in its row
+unfoldable pub openedRows : Settings → ℕ → List ℕ
+openedRows s slot = joined (rowCount s) (λ r. rowBefore s (lastIn s slot r))
+
 pub record OpenedReceiver : Type 0 where
   pub answer : Answer
   pub receiver : Receiver
   pub rows : List ℕ
 
--- opening makes the receiver's rows received zeros
-unfoldable pub openReceiverOf : Settings → List ℕ → OpenedReceiver
-openReceiverOf s rows =
-    elim (openCause s (receiverLen s) rows) [
-      | answer.Accepted ↦ record {
-        answer = answer.Accepted;
-        receiver = openedReceiver s;
-        rows = joined (rowCount s) (λ r. receivedZeros s);
-      }
+-- opening at a slot makes it due, and writes the rows of the slots before it
+unfoldable pub openReceiverOf : Settings → ℕ → List ℕ → OpenedReceiver
+openReceiverOf s slot rows =
+    elim (openReceiverCause s slot rows) [
+      | answer.Accepted ↦ record { answer = answer.Accepted; receiver = openedReceiver s slot; rows = openedRows s slot }
       | answer.Refused c ↦ record { answer = answer.Refused c; receiver = noReceiver; rows = rows }
     ]
 

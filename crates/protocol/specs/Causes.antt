@@ -1,4 +1,5 @@
--- Document 01, "Why a call says no": the causes, their numbers, the table of each call in the order of checking, and the first that holds.
+-- Document 01, "Why a call says no", and document 02: the causes, their numbers, the table of each call in the order of checking, and
+-- the first that holds.
 use mathlib.Core.Bool.{Bool, true, false, not}
 use mathlib.Core.List.{List, [], _∷_, _++_}
 use Prim.Native.Nat.{ℕ}
@@ -11,12 +12,13 @@ use Rattle.protocol.specs.declared.Sender.{Sender}
 use Rattle.protocol.specs.declared.Receiver.{Receiver}
 use Rattle.protocol.specs.declared.Cause.{Cause}
 use Rattle.protocol.specs.declared.Cause.the-variants.{BadSettings, BadLength, PastLastSlot, OtherMark, OtherSettings, OtherSlot}
+use Rattle.protocol.specs.declared.Cause.the-variants.{LateOpening}
 use Rattle.protocol.specs.declared.Answer.{Answer}
 use Rattle.protocol.specs.declared.Answer.the-variants as answer
 use Rattle.protocol.specs.Lengths.{lastSlot, senderLen, receiverLen, exactly, exactlyFramed}
 use Rattle.protocol.specs.Frame.{mark, five, slotBytes}
 
--- document 01's number for each cause
+-- the papers' number for each cause
 abbrev pub numberOf : Cause → ℕ
 numberOf BadSettings = 1
 numberOf BadLength = 2
@@ -24,6 +26,7 @@ numberOf PastLastSlot = 3
 numberOf OtherMark = 4
 numberOf OtherSettings = 5
 numberOf OtherSlot = 6
+numberOf LateOpening = 7
 
 -- refused for the cause c where its condition holds, else what the rest of the table says
 abbrev pub check : Bool → Cause → Answer → Answer
@@ -50,6 +53,10 @@ agree m a b = every m (λ i. eqb (getD a i 0) (getD b i 0))
 -- an opening meets 1 and 2; size is the length of its end's rows
 abbrev pub openTable : Settings → ℕ → List ℕ → List Row
 openTable s size rows = row (not (accepted s)) BadSettings ∷ row (not (eqb (length rows) size)) BadLength ∷ []
+
+-- that of a receiver at this slot meets 7 as well
+abbrev pub openReceiverTable : Settings → ℕ → List ℕ → List Row
+openReceiverTable s slot rows = openTable s (receiverLen s) rows ++ (row (ltb lastSlot slot) LateOpening ∷ [])
 
 -- every call in a slot meets 1, 2 and 3; exact says that what is lent has its lengths
 abbrev pub slotTable : Settings → Bool → ℕ → List Row
@@ -91,6 +98,9 @@ frameTable = frameTableOf 1
 -- what each table says
 unfoldable pub openCause : Settings → ℕ → List ℕ → Answer
 openCause s size rows = firstOf (openTable s size rows)
+
+unfoldable pub openReceiverCause : Settings → ℕ → List ℕ → Answer
+openReceiverCause s slot rows = firstOf (openReceiverTable s slot rows)
 
 unfoldable pub slotCause : Settings → Bool → ℕ → Answer
 slotCause s exact due = firstOf (slotTable s exact due)

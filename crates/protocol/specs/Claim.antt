@@ -1,4 +1,4 @@
--- Demand 3, as one statement about two lists of any length.
+-- Demand 3, as one statement about two lists of any length, the receiver being opened at any slot.
 use mathlib.Core.Path.{_≡_}
 use mathlib.Core.Logic.{_↔_}
 use mathlib.Core.List.{List, List·Memᴰ}
@@ -15,7 +15,7 @@ use Rattle.protocol.specs.Lengths.{lastSlot, messageLen, frameLen, sende
 use Rattle.protocol.specs.Frame.{header}
 use Rattle.protocol.specs.Calls.{OpenedSender, OpenedReceiver, openSenderOf, openReceiverOf}
 use Rattle.protocol.specs.TwoLists.{Send, SendMade, sends, Report, heard, missed, ReportMade, reports}
-use Rattle.protocol.specs.Histories.{SentAs, lostAt}
+use Rattle.protocol.specs.Histories.{SentAs, lostSince}
 -- the crates above cite it from here
 pub use Rattle.protocol.specs.Histories.{accepts}
 
@@ -41,8 +41,9 @@ NoCause s due (heard frame message) =
 abbrev pub ReportTaken : Settings → ReportMade → Type 0
 ReportTaken s m = T (accepts (m .after .reply)) ↔ NoCause s (m .before .due) (m .call)
 
--- what demand 3 says of two lists, of the sends made and the reports told, both ends being opened with the settings s
-pub record Holds (s : Settings) (sent : List SendMade) (told : List ReportMade) : Type 0 where
+-- what demand 3 says of two lists, of the sends made and the reports told, both ends being opened with the settings s, and the receiver at
+-- the slot `opening`
+pub record Holds (s : Settings) (opening : ℕ) (sent : List SendMade) (told : List ReportMade) : Type 0 where
   -- a call is accepted exactly when no listed cause holds
   pub sends-taken : (m : SendMade) → List·Memᴰ m sent → SendTaken s m
   pub reports-taken : (m : ReportMade) → List·Memᴰ m told → ReportTaken s m
@@ -51,21 +52,23 @@ pub record Holds (s : Settings) (sent : List SendMade) (told : List ReportMade) 
       → SentAs sent (r .before .due) message f → length m ≡ messageLen s → T (accepts (r .after .reply))
   -- a slot is sent once
   pub once : (t : ℕ) (m₁ f₁ m₂ f₂ : List ℕ) → SentAs sent t m₁ f₁ → SentAs sent t m₂ f₂ → (m₁ ≡ m₂) × (f₁ ≡ f₂)
-  -- if slots t - k + 1 to t + T are fair, the report of slot t + T hands out message t whole, as sent
+  -- if slots t - k + 1 to t + T are fair, those before the opening being losses, the report of slot t + T hands out message t whole, as
+  -- sent
   pub on-time : (t : ℕ) (r : ReportMade) → List·Memᴰ r told → r .before .due ≡ t + delayOf s → T (accepts (r .after .reply))
-      → Fair s (lostAt told) (t + 1 - kOf s) (t + delayOf s)
+      → Fair s (lostSince opening told) (t + 1 - kOf s) (t + delayOf s)
       → (message : List ℕ) × (frame : List ℕ) × SentAs sent t message frame
       × (r .after .reply ≡ reply.Whole) × (r .after .message ≡ message)
 
--- demand 3: any rows lent to accepted openings, any list of sends of bytes, any list of reports, frames being the sender's own
+-- demand 3: any opening slot up to the last one, any rows lent to accepted openings, any list of sends of bytes, any list of reports,
+-- frames being the sender's own
 unfoldable pub Demand3 : Type 0
 Demand3 =
-    (s : Settings) → T (accepted s)
+    (s : Settings) → T (accepted s) → (opening : ℕ) → opening ≤ lastSlot
     → (senderRows receiverRows : List ℕ) → length senderRows ≡ senderLen s → length receiverRows ≡ receiverLen s
     → (sendCalls : List Send) → ((c : Send) → List·Memᴰ c sendCalls → Bytes (c .message))
     → (reportCalls : List Report)
     → let a : OpenedSender = openSenderOf s senderRows in
-    let b : OpenedReceiver = openReceiverOf s receiverRows in
+    let b : OpenedReceiver = openReceiverOf s opening receiverRows in
     let sent : List SendMade = sends (a .sender) (a .rows) sendCalls in
     let told : List ReportMade = reports (b .receiver) (b .rows) reportCalls in
-    Faithful sent told → Holds s sent told
+    Faithful sent told → Holds s opening sent told

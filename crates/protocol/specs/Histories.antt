@@ -3,7 +3,7 @@ use mathlib.Core.Path.{_≡_}
 use mathlib.Core.Bool.{Bool, true, false, cond, _&&_, _||_}
 use mathlib.Core.List.{List, [], _∷_, List·Memᴰ}
 use Prim.Native.Nat.{ℕ}
-use lib.Dec.{T, eqb}
+use lib.Dec.{T, eqb, ltb}
 use Rattle.protocol.specs.declared.Answer.{Answer}
 use Rattle.protocol.specs.declared.Answer.the-variants as answer
 use Rattle.protocol.specs.declared.Reply.{Reply}
@@ -67,3 +67,7 @@ ofLoss (missed m) = true
 unfoldable pub lostAt : List ReportMade → ℕ → Bool
 lostAt [] t = false
 lostAt (r ∷ rs) t = (accepts (r .after .reply) && (ofLoss (r .call) && eqb (r .before .due) t)) || lostAt rs t
+
+-- slot t counts as a loss for a receiver opened at this slot: it is one of those before it, or was reported as a loss
+unfoldable pub lostSince : ℕ → List ReportMade → ℕ → Bool
+lostSince opening told t = ltb t opening || lostAt told t

@@ -13,7 +13,7 @@ use Rattle.code.specs.Word.{OfWord, wordAt}
 use Rattle.code.specs.Fitting.{Arrived, fits}
 use Rattle.protocol.specs.declared.Sender.{Sender}
 use Rattle.protocol.specs.declared.Receiver.{Receiver}
-use Rattle.protocol.specs.Lengths.{messageLen, frameLen, senderLen, rowLen, rowCount, receiverLen}
+use Rattle.protocol.specs.Lengths.{lastSlot, messageLen, frameLen, senderLen, rowLen, rowCount, receiverLen}
 use Rattle.protocol.specs.Frame.{header, remembered}
 use Rattle.protocol.specs.Codewords.{source}
 use Rattle.protocol.specs.Rows.{putRow}
@@ -117,10 +117,10 @@ pub record Tells (s : Settings) (what : ℕ → ℕ → Arrived) (r : Reported) 
   pub whole : (replyNumber (r .reply) ≡ 17) ↔ ((SomeClash s what → ⊥) × (SomeLost s what → ⊥))
   pub shared : replyNumber (r .reply) ≡ 17 → AllShare s what (λ i v. getD (r .message) (i * s .lanes + v) 0)
 
--- an accepted report of slot due, whatever the rows say: the settings stay, the slot due moves on, its row is written, 16, "none yet",
--- is told exactly below slot T, the message buffer has its length, and zeros unless the message is whole
-pub record AcceptedReport (s : Settings) (due : ℕ) (rows : List ℕ) (call : Report) (r : Reported) : Type 0 where
-  pub moved : (r .receiver .settings ≡ s) × (r .receiver .due ≡ due + 1)
+-- an accepted report of slot due, whatever the rows say: the settings and the opening slot stay, the slot due moves on, its row is
+-- written, 16, "none yet", is told exactly below slot T, the message buffer has its length, and zeros unless the message is whole
+pub record AcceptedReport (s : Settings) (opening due : ℕ) (rows : List ℕ) (call : Report) (r : Reported) : Type 0 where
+  pub moved : (r .receiver .settings ≡ s) × (r .receiver .opening ≡ opening) × (r .receiver .due ≡ due + 1)
   pub written : r .rows ≡ putRow (rowLen s) (due % rowCount s) (rowOf s call) rows
   pub none-yet : (replyNumber (r .reply) ≡ 16) ↔ (due < delayOf s)
   pub tells : (t : ℕ) → due ≡ t + delayOf s → Tells s (inTime s (r .rows) t) r
@@ -139,13 +139,14 @@ TrueHistory s told t what =
     (i v p byte : ℕ) → i < kOf s → v < s .lanes → p < nOf s
     → (T (what i v .known p) × (what i v .byte p ≡ byte)) ↔ ((p ≤ i + delayOf s) × Came s told t i v p byte)
 
--- demand 2, the receiver: any accepted report; and after a fresh opening the rows say the true history
+-- demand 2, the receiver: any accepted report; and after a fresh opening at any slot the rows say the true history
 pub record Demand2Verdict : Type 0 where
   pub by-rows : (x : Receiver) (rows : List ℕ) (call : Report)
       → let r : Reported = reportOf x rows call in
-      T (accepts (r .reply)) → AcceptedReport (x .settings) (x .due) rows call r
-  pub by-history : (s : Settings) → T (accepted s) → (rows : List ℕ) → length rows ≡ receiverLen s → (calls : List Report)
-      → let b : OpenedReceiver = openReceiverOf s rows in
+      T (accepts (r .reply)) → AcceptedReport (x .settings) (x .opening) (x .due) rows call r
+  pub by-history : (s : Settings) → T (accepted s) → (opening : ℕ) → opening ≤ lastSlot
+      → (rows : List ℕ) → length rows ≡ receiverLen s → (calls : List Report)
+      → let b : OpenedReceiver = openReceiverOf s opening rows in
       let told : List ReportMade = reports (b .receiver) (b .rows) calls in
       (r : ReportMade) → List·Memᴰ r told → T (accepts (r .after .reply)) → (t : ℕ) → r .before .due ≡ t + delayOf s
       → TrueHistory s told t (inTime s (r .after .rows) t)

@@ -1,4 +1,4 @@
--- The number of each answer and of each reply. Document 01 gives those of the causes, `numberOf`; 7 to 15 are left free for others.
+-- The number of each answer and of each reply. The papers give those of the causes, `numberOf`, up to 15.
 use mathlib.Core.Path.{_≡_}
 use Prim.Native.Nat.{ℕ}
 use Rattle.protocol.specs.declared.Cause.{Cause}

@@ -10,9 +10,9 @@ use Rattle.code.specs.declared.settings.Settings.{Settings}
 use Rattle.protocol.specs.declared.Sender.{Sender}
 use Rattle.protocol.specs.declared.Receiver.{Receiver}
 use Rattle.protocol.specs.declared.Cause.{Cause}
-use Rattle.protocol.specs.Lengths.{senderLen, receiverLen}
+use Rattle.protocol.specs.Lengths.{senderLen}
 use Rattle.protocol.specs.States.{noSender, noReceiver}
-use Rattle.protocol.specs.Causes.{numberOf, Row, openTable, sendTable, lossTable, frameTable}
+use Rattle.protocol.specs.Causes.{numberOf, Row, openTable, openReceiverTable, sendTable, lossTable, frameTable}
 use Rattle.protocol.specs.Numbers.{answerNumber, replyNumber}
 use Rattle.protocol.specs.Calls.{OpenedSender, openSenderOf, Sent, sendOf, OpenedReceiver, openReceiverOf}
 use Rattle.protocol.specs.Calls.{Reported, lossOf, heardOf}
@@ -22,7 +22,7 @@ pub data First (c : Cause) : List Row → Type 0 where
   here : {r : Row} {rs : List Row} → T (r .holds) → r .why ≡ c → First c (r ∷ rs)
   later : {r : Row} {rs : List Row} → (T (r .holds) → ⊥) → First c rs → First c (r ∷ rs)
 
--- the table stands in the order of document 01's numbers, from above n on
+-- the table stands in the order of the papers' numbers, from above n on
 abbrev pub inOrder : ℕ → List Row → Bool
 inOrder n [] = true
 inOrder n (r ∷ rs) = ltb n (numberOf (r .why)) && inOrder (numberOf (r .why)) rs
@@ -40,9 +40,9 @@ pub record Demand1 : Type 0 where
       → let r : OpenedSender = openSenderOf s rows in
       Refuses (openTable s (senderLen s) rows) (answerNumber (r .answer))
       ((r .sender ≡ noSender) × (r .rows ≡ rows))
-  pub open-receiver : (s : Settings) (rows : List ℕ)
-      → let r : OpenedReceiver = openReceiverOf s rows in
-      Refuses (openTable s (receiverLen s) rows) (answerNumber (r .answer))
+  pub open-receiver : (s : Settings) (slot : ℕ) (rows : List ℕ)
+      → let r : OpenedReceiver = openReceiverOf s slot rows in
+      Refuses (openReceiverTable s slot rows) (answerNumber (r .answer))
       ((r .receiver ≡ noReceiver) × (r .rows ≡ rows))
   -- a refused send leaves the state, the rows and the lent frame as they were
   pub send : (x : Sender) (rows message frame : List ℕ)

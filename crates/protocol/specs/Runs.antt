@@ -31,7 +31,7 @@ pub data ReceiverRun : Receiver → List ℕ → List ReportMade → Type 0 wher
       → m .before ≡ x → m .rows ≡ rows → ReportEnsured m → ReceiverRun (m .after .receiver) (m .after .rows) later
       → ReceiverRun x rows (m ∷ later)
 
--- such calls after an opening that was lent some rows and accepted
+-- such calls after an opening that was lent some rows and accepted, a receiver's at some slot
 pub record SenderOpened (s : Settings) (sent : List SendMade) : Type 0 where
   pub lent : List ℕ
   pub opened : OpenedSender
@@ -39,10 +39,10 @@ pub record SenderOpened (s : Settings) (sent : List SendMade) : Type 0 where
   pub accepted : answerNumber (opened .answer) ≡ 0
   pub run : SenderRun (opened .sender) (opened .rows) sent
 
-pub record ReceiverOpened (s : Settings) (told : List ReportMade) : Type 0 where
+pub record ReceiverOpened (s : Settings) (opening : ℕ) (told : List ReportMade) : Type 0 where
   pub lent : List ℕ
   pub opened : OpenedReceiver
-  pub ensured : opened ≡ openReceiverOf s lent
+  pub ensured : opened ≡ openReceiverOf s opening lent
   pub accepted : answerNumber (opened .answer) ≡ 0
   pub run : ReceiverRun (opened .receiver) (opened .rows) told
 
@@ -58,5 +58,5 @@ pub record RunsAreLists : Type 0 where
 -- so demand 3 holds of any two runs from accepted openings with the same settings, each accepted frame being the sender's
 unfoldable pub Demand3Runs : Type 0
 Demand3Runs =
-    (s : Settings) (sent : List SendMade) (told : List ReportMade) → SenderOpened s sent → ReceiverOpened s told
-    → ((m : SendMade) → List·Memᴰ m sent → Bytes (m .call .message)) → Faithful sent told → Holds s sent told
+    (s : Settings) (opening : ℕ) (sent : List SendMade) (told : List ReportMade) → SenderOpened s sent → ReceiverOpened s opening told
+    → ((m : SendMade) → List·Memᴰ m sent → Bytes (m .call .message)) → Faithful sent told → Holds s opening sent told

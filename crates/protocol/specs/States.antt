@@ -1,5 +1,5 @@
--- Document 01, "What is remembered": what each end keeps beside its rows, made here alone. As an opening makes it, as an accepted call
--- leaves it, and the state of zeros that a refused opening hands back.
+-- Document 01, "What is remembered", and document 02 §3: what each end keeps beside its rows, made here alone. As an opening makes it, as
+-- an accepted call leaves it, and the state of zeros that a refused opening hands back.
 use Prim.Native.Nat.{ℕ, _+_}
 use Rattle.code.specs.declared.settings.Settings.{Settings}
 use Rattle.protocol.specs.declared.Sender.{Sender}
@@ -28,17 +28,17 @@ noSender = senderAt noSettings 0
 
 -- ---- the receiver
 
--- the receiver with these settings and this slot due
-abbrev pub receiverAt : Settings → ℕ → Receiver
-receiverAt s due = record { settings = s; due = due }
+-- the receiver with these settings, this opening slot and this slot due
+abbrev pub receiverAt : Settings → ℕ → ℕ → Receiver
+receiverAt s opening due = record { settings = s; opening = opening; due = due }
 
--- it is opened with slot 0 due
-abbrev pub openedReceiver : Settings → Receiver
-openedReceiver s = receiverAt s 0
+-- it is opened with its opening slot due
+abbrev pub openedReceiver : Settings → ℕ → Receiver
+openedReceiver s slot = receiverAt s slot slot
 
 -- an accepted report leaves the next slot due
 abbrev pub reportedOn : Receiver → Receiver
-reportedOn x = receiverAt (x .settings) (x .due + 1)
+reportedOn x = receiverAt (x .settings) (x .opening) (x .due + 1)
 
 abbrev pub noReceiver : Receiver
-noReceiver = receiverAt noSettings 0
+noReceiver = receiverAt noSettings 0 0

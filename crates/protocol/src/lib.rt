@@ -18,9 +18,10 @@ pub struct Sender {
     pub due: u32,
 }
 
-// What the receiver keeps: its settings, and the slot due.
+// What the receiver keeps: its settings, the slot that it was opened at, and the slot due.
 pub struct Receiver {
     pub settings: Settings,
+    pub opening: u32,
     pub due: u32,
 }
 
@@ -32,6 +33,7 @@ pub enum Cause {
     OtherMark,
     OtherSettings,
     OtherSlot,
+    LateOpening,
 }
 
 // What an opening or a send answers; `answerNumber` of specs/Numbers.antt has the numbers.

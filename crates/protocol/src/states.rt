@@ -21,6 +21,7 @@ impl Sender {
 impl Receiver {
     pub const NONE: Receiver = Receiver {
         settings: NO_SETTINGS,
+        opening: 0,
         due: 0,
     };
 }

@@ -2,25 +2,36 @@
 use buffers::row_count;
 use buffers::row_len;
 use code::Settings;
-ghost use mathlib.Core.Bool.{cond};
 ghost use mathlib.Core.List.{_∷_, _++_};
 ghost use mathlib.Core.Path.{_≡_};
 ghost use Prim.Native.Nat.{_+_, _%_, _≤_, _<_};
-ghost use lib.Dec.{T, eqb};
+ghost use lib.Dec.{T};
 ghost use lib.ListN.{length, take, drop, replicate};
 ghost use Rattle.code.specs.Settings.{accepted};
 ghost use Rattle.galois.specs.Table.{table};
 ghost use Rattle.protocol.specs.Lengths.{frameLen, rowLen, rowCount, receiverLen};
 ghost use Rattle.protocol.specs.Rows.{putRow};
+ghost use Rattle.ring.specs.Bytes.{openedByte};
 
-// Rows of this size, all received zeros.
-pub fn receive_zeros(rows: &mut [u8], size: usize)
+// Byte q of rows of this size, those below row `lost` being zeros, and the others received zeros.
+fn opened_byte(q: usize, size: usize, lost: u32) -> u8
     requires { ⌜ 0 < size ⌝ }
-    ensures { λ _. ⌜ now (rows .exit) ≡ table (length (now (rows .entry))) (λ q. cond (eqb (q % size) 0) 1 0) ⌝ }
+    ensures { λ r. ⌜ r ≡ openedByte size lost q ⌝ }
+{
+    if q / size < lost as usize {
+        return 0;
+    }
+    (q % size == 0) as u8
+}
+
+// All of these rows.
+pub fn write_opened(rows: &mut [u8], size: usize, lost: u32)
+    requires { ⌜ 0 < size ⌝ }
+    ensures { λ _. ⌜ now (rows .exit) ≡ table (length (now (rows .entry))) (openedByte size lost) ⌝ }
 {
     let mut q: usize = 0;
     while q < rows.len() {
-        rows[q] = (q % size == 0) as u8;
+        rows[q] = opened_byte(q, size, lost);
         q += 1;
     }
 }

@@ -8,6 +8,7 @@ use code::Settings;
 use cuts::Call;
 use protocol::Receiver;
 use protocol::Sender;
+ghost use Prim.Native.Nat.{_≤_};
 
 // The buffers, and how many bytes at the end of each are zeros behind what it is for; how many losses of a burst are left over, whether
 // rows are drawn behind the receiver's back, the settings and both ends.
@@ -47,17 +48,48 @@ fn sent(game: Game, call: Call, message: &[u8; 1040]) -> Game {
     out
 }
 
-// A message is drawn and sent, at times after a send with faults.
-fn sending(game: Game, x: &mut u64) -> Game {
+// The send of the slot due, with nothing wrong.
+fn exact_send(game: Game) -> Call {
     let before = game.sender;
     let settings = before.settings;
-    let exact = Call {
+    Call {
         settings: settings,
+        opening: 0,
         due: before.due,
         rows: game.sent_cut,
         first: game.buffer_cut,
         second: game.frame_cut,
-    };
+    }
+}
+
+// How many slots before the start are sent: 16, or as many as there are.
+fn sends_before(start: u32) -> u32
+    ensures { λ r. ⌜ (r ≤ start) × (r ≤ 16) ⌝ }
+{
+    if start < 16 {
+        return start;
+    }
+    16
+}
+
+// The messages of these slots, drawn and sent.
+pub(crate) fn sent_before(game: Game, start: u32, x: &mut u64) -> Game {
+    let count = sends_before(start);
+    let first = start - count;
+    let mut out = game;
+    out.sender.due = first;
+    let mut i: u32 = 0;
+    while i < count {
+        let message = random::bytes(out.buffer_cut, x);
+        out = sent(out, exact_send(out), &message);
+        i += 1;
+    }
+    out
+}
+
+// A message is drawn and sent, at times after a send with faults.
+fn sending(game: Game, x: &mut u64) -> Game {
+    let exact = exact_send(game);
     let message = random::bytes(game.buffer_cut, x);
     let faults = send_faults(x);
     let mut out = game;
@@ -96,6 +128,7 @@ fn reported(game: Game, before: Receiver, lost_now: bool, faults: usize, x: &mut
     let settings = before.settings;
     let mut exact = Call {
         settings: settings,
+        opening: before.opening,
         due: before.due,
         rows: game.received_cut,
         first: game.buffer_cut,

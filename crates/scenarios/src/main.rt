@@ -10,8 +10,15 @@ mod title;
 use code::Settings;
 use game::Game;
 
-// The buffers drawn, and both ends opened in them.
-fn opened(s: Settings, lent: bool, x: &mut u64) -> Game {
+// Both ends opened fresh at slot 0; rows that are lent with a history of their own; or a receiver that is opened late.
+pub(crate) enum Kind {
+    Fresh,
+    Lent,
+    Late,
+}
+
+// The buffers drawn, and both ends opened in them, the receiver at this slot.
+fn opened(s: Settings, slot: u32, lent: bool, x: &mut u64) -> Game {
     let sent_cut = cuts::end(32768, buffers::sender_len(s));
     let received_cut = cuts::end(32768, buffers::receiver_len(s));
     let frame_cut = cuts::end(1040, buffers::frame_len(s));
@@ -21,7 +28,7 @@ fn opened(s: Settings, lent: bool, x: &mut u64) -> Game {
     let frame = random::bytes(frame_cut, x);
     let buffer = random::bytes(buffer_cut, x);
     let sender = openings::of_sender(s, sent_cut, &mut sent, x);
-    let receiver = openings::of_receiver(s, received_cut, &mut received, x);
+    let receiver = openings::of_receiver(s, slot, received_cut, &mut received, x);
     Game {
         sent: sent,
         received: received,
@@ -39,19 +46,50 @@ fn opened(s: Settings, lent: bool, x: &mut u64) -> Game {
     }
 }
 
-// A scenario: its title, and all its calls.
-fn scenario(s: Settings, lent: bool, start: u32, x: &mut u64) {
-    title::scenario(s, lent, start);
-    let mut game = rows::drawn(opened(s, lent, x), start, x);
+// So many slots.
+fn rounds(begun: Game, count: usize, x: &mut u64) {
+    let mut game = begun;
     let mut i: usize = 0;
-    while i < 40 {
+    while i < count {
         game = game::round(game, x);
         i += 1;
     }
 }
 
-// The four scenarios of some settings with one lane.
-fn four(delay: u8, burst: u8, scattered: u8, x: &mut u64) {
+// A scenario: its title, and all its calls.
+fn scenario(s: Settings, k: Kind, start: u32, x: &mut u64) {
+    title::scenario(s, k, start);
+    match k {
+        Kind::Fresh => {
+            rounds(opened(s, 0, false, x), 40, x);
+        }
+        Kind::Lent => {
+            rounds(rows::drawn(opened(s, 0, true, x), start, x), 40, x);
+        }
+        Kind::Late => {
+            rounds(
+                game::sent_before(opened(s, start, false, x), start, x),
+                20,
+                x,
+            );
+        }
+    }
+}
+
+// The six scenarios of some settings with a receiver that is opened late: at slot 1, at about as many slots as it has rows, far on, and
+// at the last slot.
+fn late(s: Settings, x: &mut u64) {
+    let rows = buffers::row_count(s) as u32;
+    scenario(s, Kind::Late, 1, x);
+    scenario(s, Kind::Late, std::num::wrapping_sub_u32(rows, 1), x);
+    scenario(s, Kind::Late, rows, x);
+    scenario(s, Kind::Late, std::num::wrapping_add_u32(rows, 1), x);
+    scenario(s, Kind::Late, 2000000000, x);
+    scenario(s, Kind::Late, 3999999999, x);
+}
+
+// The ten scenarios of a code.
+fn ten(delay: u8, burst: u8, scattered: u8, x: &mut u64) {
     let s = Settings {
         window: std::num::wrapping_add_u8(delay, 1),
         delay: delay,
@@ -60,21 +98,23 @@ fn four(delay: u8, burst: u8, scattered: u8, x: &mut u64) {
         lanes: 1,
     };
     let mut many = s;
-    scenario(s, false, 0, x);
+    scenario(s, Kind::Fresh, 0, x);
     many.lanes = 64;
-    scenario(many, false, 0, x);
-    scenario(s, true, 0, x);
+    scenario(many, Kind::Fresh, 0, x);
+    scenario(s, Kind::Lent, 0, x);
     many.lanes = 3;
-    scenario(many, true, 3999999970, x);
+    scenario(many, Kind::Lent, 3999999970, x);
+    many.lanes = 2;
+    late(many, x);
 }
 
 fn main() {
     let mut x: u64 = 20261116;
-    four(1, 1, 1, &mut x);
-    four(3, 2, 2, &mut x);
-    four(3, 3, 2, &mut x);
-    four(2, 2, 1, &mut x);
-    four(8, 8, 1, &mut x);
-    four(15, 15, 15, &mut x);
-    four(15, 1, 1, &mut x);
+    ten(1, 1, 1, &mut x);
+    ten(3, 2, 2, &mut x);
+    ten(3, 3, 2, &mut x);
+    ten(2, 2, 1, &mut x);
+    ten(8, 8, 1, &mut x);
+    ten(15, 15, 15, &mut x);
+    ten(15, 1, 1, &mut x);
 }

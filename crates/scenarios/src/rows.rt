@@ -28,21 +28,21 @@ fn flags(rows: &mut [u8], size: usize, cut: usize, x: &mut u64)
     }
 }
 
-// Of lent rows: every byte of both ends' rows, and then the first byte of each of the receiver's; both ends are set to the start.
+// Every byte of both ends' rows, and then the first byte of each of the receiver's; both ends are set to the start, and the receiver's
+// opening slot above it.
 pub(crate) fn drawn(game: Game, start: u32, x: &mut u64) -> Game {
-    if !game.lent {
-        return game;
-    }
     let mut sent = game.sent;
     let mut received = game.received;
     random::fill(&mut sent, game.sent_cut, x);
     random::fill(&mut received, game.received_cut, x);
     let size = buffers::row_len(game.settings);
     flags(&mut received, size, game.received_cut, x);
+    let opening = std::num::wrapping_add_u32(start, 7);
     let mut out = game;
     out.sent = sent;
     out.received = received;
     out.sender.due = start;
+    out.receiver.opening = opening;
     out.receiver.due = start;
     out
 }

@@ -1,4 +1,5 @@
 // The first line of each scenario.
+use crate::Kind;
 use code::Settings;
 
 // A number, with a space before it.
@@ -8,22 +9,28 @@ fn number(n: u64) {
 }
 
 // The kind of a scenario.
-fn kind(lent: bool) {
-    if lent {
-        io::write_all(1, b" lent");
-        return;
+fn kind(k: Kind) {
+    match k {
+        Kind::Fresh => {
+            io::write_all(1, b" fresh");
+        }
+        Kind::Lent => {
+            io::write_all(1, b" lent");
+        }
+        Kind::Late => {
+            io::write_all(1, b" late");
+        }
     }
-    io::write_all(1, b" fresh");
 }
 
 // A scenario's settings but for the window, its kind and the slot that it starts at.
-pub(crate) fn scenario(s: Settings, lent: bool, start: u32) {
+pub(crate) fn scenario(s: Settings, k: Kind, start: u32) {
     io::write_all(1, b"scenario");
     number(s.delay as u64);
     number(s.burst as u64);
     number(s.scattered as u64);
     number(s.lanes as u64);
-    kind(lent);
+    kind(k);
     number(start as u64);
     io::write_all(1, b"\n");
 }

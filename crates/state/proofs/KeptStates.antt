@@ -34,33 +34,41 @@ four-bytes t few =
     let small : t / 16777216 % 256 ≡ t / 16777216 = mod-eq-of-lt (div-lt-iff-lt-mul (omega arith) .1 few) in
     omega (arith, second, third, small, div-add-mod' t 256, div-add-mod' (t / 256) 256, div-add-mod' (t / 65536) 256)
 
-module _ (end : ℕ) (s : Settings) (due : ℕ) where
-  pub settings-read : settingsAt 4 (stateBytes end s due) ≡ s
+module _ (end : ℕ) (s : Settings) (due opening : ℕ) where
+  pub settings-read : settingsAt 4 (stateBytes end s due opening) ≡ s
   unfolding settingsAt five slotBytes stateBytes
   settings-read = refl
 
-  pub slot-read : due ≤ lastSlot + 1 → slotAt 9 (stateBytes end s due) ≡ due
+  pub due-read : due ≤ lastSlot + 1 → slotAt 9 (stateBytes end s due opening) ≡ due
   unfolding slotAt five slotBytes stateBytes lastSlot
-  slot-read few = four-bytes due (omega arith)
+  due-read few = four-bytes due (omega arith)
 
-  marked : agree 4 (stateBytes end s due) (markOf end) ≡ true
+  pub opening-read : opening ≤ lastSlot → slotAt 13 (stateBytes end s due opening) ≡ opening
+  unfolding slotAt five slotBytes stateBytes lastSlot
+  opening-read few = four-bytes opening (omega arith)
+
+  marked : agree 4 (stateBytes end s due opening) (markOf end) ≡ true
   unfolding agree every five slotBytes stateBytes
   marked = rw (eq-eqb end end refl) refl
 
   -- so a state that was written gives no cause
-  pub state-uncaused : stateCause end (stateBytes end s due) ≡ answer.Accepted
+  pub state-uncaused : stateCause end (stateBytes end s due opening) ≡ answer.Accepted
   unfolding stateCause
-  state-uncaused = rw (eq-eqb _ _ (length-state end s due), marked)
+  state-uncaused = rw (eq-eqb _ _ (length-state end s due opening), marked)
 
 -- and keeps the sender
 pub sender-in-state : (x : Sender) → x .due ≤ lastSlot + 1 → senderIn (senderBytes x) ≡ x
 unfolding senderIn
-sender-in-state x few = let s = x .settings in rw (settings-read senderEnd s (x .due), slot-read senderEnd s (x .due) few) refl
+sender-in-state x few = let s = x .settings in rw (settings-read senderEnd s (x .due) 0, due-read senderEnd s (x .due) 0 few) refl
 
 -- or the receiver that it was written from
-pub receiver-in-state : (x : Receiver) → x .due ≤ lastSlot + 1 → receiverIn (receiverBytes x) ≡ x
+pub receiver-in-state : (x : Receiver) → x .opening ≤ lastSlot → x .due ≤ lastSlot + 1 → receiverIn (receiverBytes x) ≡ x
 unfolding receiverIn
-receiver-in-state x few = let s = x .settings in rw (settings-read receiverEnd s (x .due), slot-read receiverEnd s (x .due) few) refl
+receiver-in-state x begun few =
+    let s = x .settings in
+    let due : ℕ = x .due in
+    let opening : ℕ = x .opening in
+    rw (settings-read receiverEnd s due opening, opening-read receiverEnd s due opening begun, due-read receiverEnd s due opening few) refl
 
 -- ---- the causes that a state gives
 

@@ -1,4 +1,4 @@
--- The state that the static library's callers keep between calls, as 13 bytes.
+-- The state that the static library's callers keep between calls, as 20 bytes.
 use mathlib.Core.Bool.{Bool, cond, not}
 use mathlib.Core.List.{List, [], _∷_, _++_}
 use Prim.Native.Nat.{ℕ}
@@ -28,26 +28,30 @@ receiverEnd = 0x52
 abbrev pub markOf : ℕ → List ℕ
 markOf end = 0x54 ∷ 0x4f ∷ 0x42 ∷ end ∷ []
 
--- a state: its mark, W, T, B, N and L, and the slot due, high byte first
-unfoldable pub stateBytes : ℕ → Settings → ℕ → List ℕ
-stateBytes end s due = markOf end ++ five s ++ slotBytes due
+-- the bytes that keep nothing yet: room for a version, the parts gathered and their count
+abbrev pub spare : List ℕ
+spare = 0 ∷ 0 ∷ 0 ∷ []
 
--- the state of this sender, and of this receiver
+-- a state: its mark, W, T, B, N and L, the slot due and the opening slot, high byte first, and the spare bytes
+unfoldable pub stateBytes : ℕ → Settings → ℕ → ℕ → List ℕ
+stateBytes end s due opening = markOf end ++ five s ++ slotBytes due ++ slotBytes opening ++ spare
+
+-- the state of this sender, which has no opening slot but 0, and of this receiver
 abbrev pub senderBytes : Sender → List ℕ
-senderBytes x = stateBytes senderEnd (x .settings) (x .due)
+senderBytes x = stateBytes senderEnd (x .settings) (x .due) 0
 
 abbrev pub receiverBytes : Receiver → List ℕ
-receiverBytes x = stateBytes receiverEnd (x .settings) (x .due)
+receiverBytes x = stateBytes receiverEnd (x .settings) (x .due) (x .opening)
 
--- a state's length
+-- a state's length, of either end
 abbrev pub stateLen : ℕ
-stateLen = 13
+stateLen = 20
 
 -- the state after a call: these bytes where the call was taken, else as it was
 abbrev pub saved : Bool → List ℕ → List ℕ → List ℕ
 saved taken bytes state = cond taken bytes state
 
--- ---- what is read
+-- ---- what is read; the other bytes are not looked at
 
 -- the sender that a state keeps
 unfoldable pub senderIn : List ℕ → Sender
@@ -55,7 +59,7 @@ senderIn state = senderAt (settingsAt 4 state) (slotAt 9 state)
 
 -- the receiver that a state keeps
 unfoldable pub receiverIn : List ℕ → Receiver
-receiverIn state = receiverAt (settingsAt 4 state) (slotAt 9 state)
+receiverIn state = receiverAt (settingsAt 4 state) (slotAt 13 state) (slotAt 9 state)
 
 -- ---- what a state is refused for
 

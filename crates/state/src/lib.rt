@@ -12,12 +12,13 @@ use protocol::Sender;
 ghost use mathlib.Core.Path.{_≡_};
 ghost use Prim.Native.Nat.{_≤_};
 ghost use lib.ListN.{length};
+ghost use Rattle.protocol.specs.Frame.{slotBytes};
 ghost use Rattle.protocol.specs.Causes.{agree};
 ghost use Rattle.state.specs.State.{markOf, stateBytes, senderBytes, receiverBytes, stateLen, saved};
 ghost use Rattle.state.specs.State.{senderIn, receiverIn, stateCause};
 
-// The length of a state.
-pub const STATE_LEN: usize = 13;
+// The length of a state, of either end.
+pub const STATE_LEN: usize = 20;
 
 // The letter of the end that a state is of: `S` for a sender.
 pub const SENDER_END: u8 = 0x53;
@@ -38,7 +39,7 @@ pub fn receiver_in(state: &[u8]) -> Receiver
     requires { ⌜ stateLen ≤ length (now state) ⌝ }
     ensures { λ r. ⌜ r ≡ receiverIn (now (state .entry)) ⌝ }
 {
-    receiver_at(settings_at(state, 4), slot_at(state, 9))
+    receiver_at(settings_at(state, 4), slot_at(state, 13), slot_at(state, 9))
 }
 
 // The mark of a state of this end.
@@ -77,11 +78,25 @@ pub fn state_cause(end: u8, state: &[u8]) -> Answer
     Answer::Accepted
 }
 
+// A slot in four bytes, high byte first.
+fn slot_bytes(slot: u32) -> [u8; 4]
+    ensures { λ r. ⌜ r ≡ slotBytes slot ⌝ }
+{
+    [
+        (slot / 16777216 % 256) as u8,
+        (slot / 65536 % 256) as u8,
+        (slot / 256 % 256) as u8,
+        (slot % 256) as u8,
+    ]
+}
+
 // A state, byte by byte.
-fn state_bytes(end: u8, s: Settings, due: u32) -> [u8; STATE_LEN]
-    ensures { λ r. ⌜ r ≡ stateBytes end s due ⌝ }
+fn state_bytes(end: u8, s: Settings, due: u32, opening: u32) -> [u8; STATE_LEN]
+    ensures { λ r. ⌜ r ≡ stateBytes end s due opening ⌝ }
 {
     let mark = mark_of(end);
+    let next = slot_bytes(due);
+    let first = slot_bytes(opening);
     [
         mark[0],
         mark[1],
@@ -92,10 +107,17 @@ fn state_bytes(end: u8, s: Settings, due: u32) -> [u8; STATE_LEN]
         s.burst,
         s.scattered,
         s.lanes,
-        (due / 16777216 % 256) as u8,
-        (due / 65536 % 256) as u8,
-        (due / 256 % 256) as u8,
-        (due % 256) as u8,
+        next[0],
+        next[1],
+        next[2],
+        next[3],
+        first[0],
+        first[1],
+        first[2],
+        first[3],
+        0,
+        0,
+        0,
     ]
 }
 
@@ -103,14 +125,14 @@ fn state_bytes(end: u8, s: Settings, due: u32) -> [u8; STATE_LEN]
 pub fn sender_bytes(x: Sender) -> [u8; STATE_LEN]
     ensures { λ r. ⌜ r ≡ senderBytes x ⌝ }
 {
-    state_bytes(SENDER_END, x.settings, x.due)
+    state_bytes(SENDER_END, x.settings, x.due, 0)
 }
 
 // The state of this receiver.
 pub fn receiver_bytes(x: Receiver) -> [u8; STATE_LEN]
     ensures { λ r. ⌜ r ≡ receiverBytes x ⌝ }
 {
-    state_bytes(RECEIVER_END, x.settings, x.due)
+    state_bytes(RECEIVER_END, x.settings, x.due, x.opening)
 }
 
 // Writes these bytes over the state where the call was taken; else it stays as it was.

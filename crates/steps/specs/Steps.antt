@@ -19,12 +19,12 @@ pub record Begun : Type 0 where
   pub rows : List ℕ
   pub message : List ℕ
 
--- a player at the start of a recording: its receiver is opened on the lent rows, and the message buffer is zeros
+-- a player at the start of a recording: its receiver is opened at slot 0 on the lent rows, and the message buffer is zeros
 unfoldable pub beginOf : Settings → List ℕ → List ℕ → Begun
 beginOf s rows message =
     record {
-      player = record { receiver = openReceiverOf s rows .receiver; offset = 0 };
-      rows = openReceiverOf s rows .rows;
+      player = record { receiver = openReceiverOf s 0 rows .receiver; offset = 0 };
+      rows = openReceiverOf s 0 rows .rows;
       message = replicate (length message) 0;
     }
 

@@ -23,7 +23,7 @@ pub fn begin(s: Settings, rows: &mut [u8], message: &mut [u8]) -> Player
         ≡ beginOf s (now (rows .entry)) (now (message .entry))
         ⌝ }
 {
-    let opened = receiver::open(s, rows);
+    let opened = receiver::open(s, 0, rows);
     clear(message);
     let x = opened.receiver;
     Player {

@@ -21,12 +21,12 @@ pub fn open_sender(s: Settings, cut: usize, rows: &mut [u8]) -> Sender
     opened.sender
 }
 
-// An opening of the receiver.
-pub fn open_receiver(s: Settings, cut: usize, rows: &mut [u8]) -> Receiver
-    ensures { λ r. ⌜ record { receiver = r; rows = now (rows .exit) } ≡ openReceiverCut s cut (now (rows .entry)) ⌝ }
+// An opening of the receiver at this slot.
+pub fn open_receiver(s: Settings, slot: u32, cut: usize, rows: &mut [u8]) -> Receiver
+    ensures { λ r. ⌜ record { receiver = r; rows = now (rows .exit) } ≡ openReceiverCut s slot cut (now (rows .entry)) ⌝ }
 {
     let rows_end = end(rows.len(), cut);
-    let opened = receiver::open(s, &mut rows[0..rows_end]);
+    let opened = receiver::open(s, slot, &mut rows[0..rows_end]);
     print::opened_receiver(opened, rows);
     opened.receiver
 }
@@ -59,7 +59,7 @@ pub fn heard(call: Call, rows: &mut [u8], frame: &[u8], buffer: &mut [u8]) -> Re
         ≡ heardCut call (now (rows .entry)) (now (frame .entry)) (now (buffer .entry))
         ⌝ }
 {
-    let x = receiver_at(call.settings, call.due);
+    let x = receiver_at(call.settings, call.opening, call.due);
     let rows_end = end(rows.len(), call.rows);
     let frame_end = end(frame.len(), call.first);
     let buffer_end = end(buffer.len(), call.second);
@@ -80,7 +80,7 @@ pub fn loss(call: Call, rows: &mut [u8], buffer: &mut [u8]) -> Receiver
         ≡ lossCut call (now (rows .entry)) (now (buffer .entry))
         ⌝ }
 {
-    let x = receiver_at(call.settings, call.due);
+    let x = receiver_at(call.settings, call.opening, call.due);
     let rows_end = end(rows.len(), call.rows);
     let buffer_end = end(buffer.len(), call.first);
     let reported = receiver::loss(x, &mut rows[0..rows_end], &mut buffer[0..buffer_end]);

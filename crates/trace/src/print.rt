@@ -2,7 +2,9 @@
 use code::Settings;
 use ends::number_of;
 use protocol::Answer;
+use protocol::Receiver;
 use protocol::Reply;
+use protocol::Sender;
 ghost use Prim.Native.Nat.{_<_};
 
 // A number.
@@ -11,14 +13,26 @@ fn number(n: u64) {
     io::print_decimal(1, n);
 }
 
-// The settings and the slot due.
-fn state(s: Settings, due: u32) {
+// The five settings.
+fn settings(s: Settings) {
     number(s.window as u64);
     number(s.delay as u64);
     number(s.burst as u64);
     number(s.scattered as u64);
     number(s.lanes as u64);
-    number(due as u64);
+}
+
+// A sender's state: the settings and the slot due.
+fn sender_state(x: Sender) {
+    settings(x.settings);
+    number(x.due as u64);
+}
+
+// A receiver's: the settings, the opening slot and the slot due.
+fn receiver_state(x: Receiver) {
+    settings(x.settings);
+    number(x.opening as u64);
+    number(x.due as u64);
 }
 
 // The outcome of an opening or a send.
@@ -86,7 +100,7 @@ pub(crate) fn opened_sender(opened: sender::Opened, rows: &[u8]) {
     let x = opened.sender;
     io::write_all(1, b"open-sender");
     answer(a);
-    state(x.settings, x.due);
+    sender_state(x);
     sum(rows);
     line_end();
 }
@@ -97,7 +111,7 @@ pub(crate) fn opened_receiver(opened: receiver::Opened, rows: &[u8]) {
     let x = opened.receiver;
     io::write_all(1, b"open-receiver");
     answer(a);
-    state(x.settings, x.due);
+    receiver_state(x);
     sum(rows);
     line_end();
 }
@@ -108,7 +122,7 @@ pub(crate) fn sent(sent: sender::Sent, frame: &[u8], rows: &[u8]) {
     let x = sent.sender;
     io::write_all(1, b"send");
     answer(a);
-    state(x.settings, x.due);
+    sender_state(x);
     sum(frame);
     sum(rows);
     line_end();
@@ -120,7 +134,7 @@ pub(crate) fn reported(word: &[u8], r: receiver::Reported, buffer: &[u8], rows: 
     let x = r.receiver;
     io::write_all(1, word);
     reply(a);
-    state(x.settings, x.due);
+    receiver_state(x);
     sum(buffer);
     sum(rows);
     line_end();

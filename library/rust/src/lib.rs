@@ -10,6 +10,14 @@ mod c {
         pub fn tob_receiver_len(settings: *const u8) -> usize;
         pub fn tob_open_sender(settings: *const u8, state: *mut u8, state_len: usize, rows: *mut u8, rows_len: usize) -> u32;
         pub fn tob_open_receiver(settings: *const u8, state: *mut u8, state_len: usize, rows: *mut u8, rows_len: usize) -> u32;
+        pub fn tob_open_receiver_at(
+            settings: *const u8,
+            slot: u32,
+            state: *mut u8,
+            state_len: usize,
+            rows: *mut u8,
+            rows_len: usize,
+        ) -> u32;
         pub fn tob_send(
             state: *mut u8,
             state_len: usize,
@@ -74,9 +82,14 @@ pub fn open_sender(settings: &Settings, state: &mut [u8], rows: &mut [u8]) -> u3
     unsafe { c::tob_open_sender(settings.as_ptr(), state.as_mut_ptr(), state.len(), rows.as_mut_ptr(), rows.len()) }
 }
 
-/// Opens a receiver.
+/// Opens a receiver at slot 0.
 pub fn open_receiver(settings: &Settings, state: &mut [u8], rows: &mut [u8]) -> u32 {
     unsafe { c::tob_open_receiver(settings.as_ptr(), state.as_mut_ptr(), state.len(), rows.as_mut_ptr(), rows.len()) }
+}
+
+/// Opens a receiver at a slot.
+pub fn open_receiver_at(settings: &Settings, slot: u32, state: &mut [u8], rows: &mut [u8]) -> u32 {
+    unsafe { c::tob_open_receiver_at(settings.as_ptr(), slot, state.as_mut_ptr(), state.len(), rows.as_mut_ptr(), rows.len()) }
 }
 
 /// Sends a message in the slot due.

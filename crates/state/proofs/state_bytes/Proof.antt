@@ -8,13 +8,19 @@ use Rattle.state.proofs.state_bytes.Tie as tie
 
 returns : tie.Need-returns
 unfolding five slotBytes stateBytes
-returns c = rw (c .mark-of .ensures) refl
+returns c = rw (c .before .before .mark-of .ensures, c .before .slot-bytes .ensures, c .slot-bytes2 .ensures) refl
 
 pub state-bytes-spec : {M : Type 1} → statement M
 state-bytes-spec =
     tie.close
     (tie.spec
     (λ c κs. search needs)
+    (λ c κs. search needs)
+    (λ c κs. search needs)
+    (λ c. search needs)
+    (λ c. search needs)
+    (λ c. search needs)
+    (λ c. search needs)
     (λ c. search needs)
     (λ c. search needs)
     (λ c. search needs)

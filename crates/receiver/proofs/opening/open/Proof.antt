@@ -1,46 +1,38 @@
--- A cause that is found refuses the opening, and else the rows are received zeros.
+-- A cause that is found refuses the opening, and else the rows are those of the slots before it.
 use borrow.Author.Needs.{needs}
-use mathlib.Core.Path.{_≡_, sym, ap, ap₂, _∙_}
-use mathlib.Core.Bool.{cond}
+use mathlib.Core.Path.{_≡_, sym, ap₂, _∙_}
 use native.Mathlib.Omega.{arith}
-use Prim.Native.Nat.{ℕ, _%_}
+use Prim.Native.Nat.{ℕ}
 use denote.Ref.{now}
-use lib.Dec.{eqb}
 use Rattle.galois.specs.Table.{table}
 use Rattle.protocol.specs.declared.Answer.the-variants as answer
-use Rattle.protocol.specs.Causes.{openCause}
-use Rattle.protocol.specs.Lengths.{rowLen, receiverLen}
-use Rattle.protocol.proofs.CauseTables.{open-exact}
+use Rattle.protocol.specs.Causes.{openReceiverCause}
+use Rattle.protocol.specs.Lengths.{rowLen}
+use Rattle.protocol.proofs.CauseTables.{receiver-open}
+use Rattle.ring.specs.Bytes.{openedByte}
 use Rattle.ring.proofs.OpenedRows.{opened-rows}
 use Rattle.receiver.proofs.Outcomes.{opening, unopened, opened}
 use Rattle.receiver.proofs.opening.open.Statement.{statement}
 use Rattle.receiver.proofs.opening.open.Tie as tie
 
-abbrev start : tie.After-open-cause → tie.Start
-start c = c .before .before .before .before
-
--- the cause that was looked for
-looked : (c : tie.After-open-cause)
-    → let a = start c .args in c .open-cause .result ≡ openCause (a .s) (receiverLen (a .s)) (now (a .rows))
-looked c =
-    let a = start c .args in
-    c .open-cause .ensures ∙ ap (λ (n : ℕ). openCause (a .s) n (now (a .rows))) (c .before .before .receiver-len .ensures)
+abbrev start : tie.After-open-receiver-cause → tie.Start
+start c = c .before .before .before
 
 returns : tie.Need-returns
 returns c =
     let at = c .before .before .before in
     let a = start at .args in
-    unopened (a .s) (now (a .rows)) _ (sym (looked at) ∙ c .before .found .given .1)
+    unopened (a .s) (a .slot) (now (a .rows)) _ (sym (at .open-receiver-cause .ensures) ∙ c .before .found .given .1)
 
 abbrev begun : tie.After-enum-told → tie.Start
 begun c = start (c .before .before)
 
-uncaused : (c : tie.After-enum-told) → let a = begun c .args in openCause (a .s) (receiverLen (a .s)) (now (a .rows)) ≡ answer.Accepted
-uncaused c = sym (looked (c .before .before)) ∙ c .enum-told .given .1
+uncaused : (c : tie.After-enum-told) → let a = begun c .args in openReceiverCause (a .s) (a .slot) (now (a .rows)) ≡ answer.Accepted
+uncaused c = sym (c .before .before .open-receiver-cause .ensures) ∙ c .enum-told .given .1
 
-receive-zeros-requires : tie.Need-receive-zeros-requires
+write-opened-requires : tie.Need-write-opened-requires
 unfolding rowLen
-receive-zeros-requires c κs = omega (arith, c .row-len .ensures)
+write-opened-requires c κs = omega (arith, c .row-len .ensures)
 
 returns-2 : tie.Need-returns-2
 returns-2 c =
@@ -49,25 +41,24 @@ returns-2 c =
     let one = sized .before .before in
     let a = begun one .args in
     ap₂ opening
-    (at .receive-zeros .ensures
-    ∙ ap₂ (λ (n m : ℕ). table n (λ q. cond (eqb (q % m) 0) 1 0))
-    (open-exact (a .s) (receiverLen (a .s)) (now (a .rows)) (uncaused one)) (sized .row-len .ensures)
-    ∙ opened-rows (a .s))
+    (at .write-opened .ensures
+    ∙ ap₂ (λ (n m : ℕ). table n (openedByte m (a .slot)))
+    (receiver-open (a .s) (a .slot) (now (a .rows)) (uncaused one) .exact) (sized .row-len .ensures)
+    ∙ opened-rows (a .s) (a .slot))
     (c .opened-receiver .ensures)
-    ∙ opened (a .s) (now (a .rows)) (uncaused one)
+    ∙ opened (a .s) (a .slot) (now (a .rows)) (uncaused one)
 
 pub open-spec : {M : Type 1} → statement M
 open-spec =
     tie.close
     (tie.spec
     (λ c κs. search needs)
-    (λ c κs. search needs)
     (λ c. search needs)
     (λ c. search needs)
     returns
     (λ c. search needs)
     (λ c κs. search needs)
-    receive-zeros-requires
+    write-opened-requires
     (λ c κs. search needs)
     (λ c. search needs)
     returns-2)

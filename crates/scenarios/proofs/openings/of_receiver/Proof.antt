@@ -1,4 +1,4 @@
--- The loop counts to twelve.
+-- The loop counts to fifteen.
 use borrow.Author.Needs.{needs}
 use mathlib.Core.Path.{_≡_, refl}
 use native.Mathlib.Omega.{arith}
@@ -8,10 +8,10 @@ use Rattle.scenarios.proofs.openings.of_receiver.Statement.{statement}
 use Rattle.scenarios.proofs.openings.of_receiver.Tie as tie
 
 abbrev Inv-loop : tie.InvT-loop
-Inv-loop s cut rows₀ x₀ receiver₀ r₀ rows x receiver r = (r ≤ 12) × (length rows ≡ length rows₀)
+Inv-loop slot cut rows₀ x₀ exact receiver₀ r₀ rows x receiver r = (r ≤ 15) × (length rows ≡ length rows₀)
 
 abbrev μ-loop : tie.MeasureT-loop
-μ-loop s cut rows₀ x₀ receiver₀ r₀ rows x receiver r = 12 - r
+μ-loop slot cut rows₀ x₀ exact receiver₀ r₀ rows x receiver r = 15 - r
 
 pub of-receiver-spec : {M : Type 1} → statement M
 of-receiver-spec =

@@ -8,10 +8,10 @@ use Rattle.scenarios.proofs.openings.of_sender.Statement.{statement}
 use Rattle.scenarios.proofs.openings.of_sender.Tie as tie
 
 abbrev Inv-loop : tie.InvT-loop
-Inv-loop s cut rows₀ x₀ sender₀ r₀ rows x sender r = (r ≤ 12) × (length rows ≡ length rows₀)
+Inv-loop cut rows₀ x₀ exact sender₀ r₀ rows x sender r = (r ≤ 12) × (length rows ≡ length rows₀)
 
 abbrev μ-loop : tie.MeasureT-loop
-μ-loop s cut rows₀ x₀ sender₀ r₀ rows x sender r = 12 - r
+μ-loop cut rows₀ x₀ exact sender₀ r₀ rows x sender r = 12 - r
 
 pub of-sender-spec : {M : Type 1} → statement M
 of-sender-spec =

@@ -14,11 +14,11 @@ drawn-spec =
     tie.close
     (tie.spec
     (λ c. search needs)
-    (λ c. search needs)
     (λ c κs. search needs)
     (λ c. search needs)
     (λ c κs. search needs)
     (λ c κs. search needs)
     (λ c. search needs)
     flags-requires
+    (λ c κs. search needs)
     (λ c. search needs))

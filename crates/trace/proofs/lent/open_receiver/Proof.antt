@@ -9,7 +9,7 @@ abbrev called : tie.After-result → tie.After-open
 called c = c .before .before .before .before .before
 
 returns : tie.Need-returns
-returns c = receiver-opened _ _ _ _ (called c .before .before .end .ensures) _ (called c .open .ensures)
+returns c = receiver-opened _ _ _ _ (called c .before .before .end .ensures) _ _ (called c .open .ensures)
 
 pub open-receiver-spec : {M : Type 1} → statement M
 open-receiver-spec =

@@ -14,8 +14,8 @@ use Rattle.state.specs.State.{stateLen, saved}
 use Rattle.protocol.specs.Histories.{isAccepted}
 use Rattle.library.specs.Calls.{Opening}
 use Rattle.library.proofs.Outcomes.{receiverLeft, receiver-caused, receiver-uncaused}
-use Rattle.tob.proofs.openings.tob_open_receiver.Statement.{statement}
-use Rattle.tob.proofs.openings.tob_open_receiver.Tie as tie
+use Rattle.tob.proofs.openings.tob_open_receiver_at.Statement.{statement}
+use Rattle.tob.proofs.openings.tob_open_receiver_at.Tie as tie
 
 abbrev outcome : List ℕ → ℕ → List ℕ → Opening
 outcome rows reply state = record { reply = reply; state = state; rows = rows }
@@ -36,7 +36,7 @@ returns c =
     let at = at-found .before .before in
     let a = start at .args in
     ap (λ (n : ℕ). outcome (now (a .rows)) n (now (a .state))) (c .number-of .ensures)
-    ∙ receiver-caused (now (a .settings)) (now (a .state)) (now (a .rows)) _ (sym (looked at) ∙ at-found .found .given .1)
+    ∙ receiver-caused (now (a .settings)) (now (a .state)) (now (a .rows)) (a .slot) _ (sym (looked at) ∙ at-found .found .given .1)
 
 -- ---- an opening that may be accepted
 
@@ -71,11 +71,11 @@ returns-2 c =
     (at-save .save-answer .ensures .1
     ∙ ap (λ (bytes : List ℕ). saved (isAccepted (at-open .open .result .answer)) bytes (now (a .state))) (made .receiver-bytes .ensures))
     ∙ ap (receiverLeft (now (a .state)))
-    (at-open .open .ensures ∙ ap (λ (s : Settings). openReceiverOf s (now (a .rows))) (one .before .before .before .before .settings-at .ensures))
-    ∙ receiver-uncaused (now (a .settings)) (now (a .state)) (now (a .rows)) (uncaused one)
+    (at-open .open .ensures ∙ ap (λ (s : Settings). openReceiverOf s (a .slot) (now (a .rows))) (one .before .before .before .before .settings-at .ensures))
+    ∙ receiver-uncaused (now (a .settings)) (now (a .state)) (now (a .rows)) (a .slot) (uncaused one)
 
-pub tob-open-receiver-spec : {M : Type 1} → statement M
-tob-open-receiver-spec =
+pub tob-open-receiver-at-spec : {M : Type 1} → statement M
+tob-open-receiver-at-spec =
     tie.close
     (tie.spec
     (λ c κs. search needs)
