@@ -126,22 +126,17 @@ module _ (s : Settings) (ok : T (accepted s)) (slot : ℕ) (in-time : slot ≤ l
       (λ c h. small-bytes (c .message) (from-each (λ d. T (small (d .message))) sendCalls bytes c h)) reportCalls
       (λ r f m listed e passed. own-frame sent slot told step r f m listed e)
 
-  -- the slots that count as losses, by the reports of losses
-  since-alone : (τ : ℕ) → lostSince slot told τ ≡ lostSince slot (lossesIn told) τ
-  unfolding lostSince
-  since-alone τ = ap (λ (b : Bool). ltb τ slot || b) (losses-alone told τ)
-
   -- where slots t - k + 1 to t + T are fair, a report of the frame of slot t + T hands out whole what was given to the send of slot t
-  pub handed-out : (t : ℕ) → T (fairSlots s (lostSince slot (lossesIn told)) (t + 1 - kOf s) (t + delayOf s))
+  pub handed-out : (t : ℕ) → T (fairSlots s (lostSince slot (lostAt (lossesIn told))) (t + 1 - kOf s) (t + delayOf s))
       → (r : ReportMade) (f m : List ℕ) → List·Memᴰ r told → r .before .due ≡ t + delayOf s → r .call ≡ heard f m → length m ≡ messageLen s
       → (c : SendMade) → List·Memᴰ c sent → c .after .answer ≡ answer.Accepted → c .before .due ≡ t
       → (r .after .reply ≡ reply.Whole) × (r .after .message ≡ c .call .message)
   handed-out t test r f m listed last call full c at taken due =
       let own = own-frame sent slot told step r f m listed call in
       let passed : T (accepts (r .after .reply)) = holds .own-frame r f m (own .0) listed call (own .1) full in
-      let fair : Fair s (lostSince slot told) (t + 1 - kOf s) (t + delayOf s) =
-      subst⁻¹ (λ (lost : ℕ → Bool). Fair s lost (t + 1 - kOf s) (t + delayOf s)) (λ i τ. since-alone τ i)
-      (fair-tested s (lostSince slot (lossesIn told)) (t + 1 - kOf s) (t + delayOf s) .0 test) in
+      let fair : Fair s (lostSince slot (lostAt told)) (t + 1 - kOf s) (t + delayOf s) =
+      subst⁻¹ (λ (lost : ℕ → Bool). Fair s (lostSince slot lost) (t + 1 - kOf s) (t + delayOf s)) (λ i τ. losses-alone told τ i)
+      (fair-tested s (lostSince slot (lostAt (lossesIn told))) (t + 1 - kOf s) (t + delayOf s) .0 test) in
       let out = holds .on-time t r listed last passed fair in
       let given : SentAs sent t (c .call .message) (c .after .frame) =
       record { send = c; listed = at; taken = taken; slot = due; given = refl; out = refl } in

@@ -3,7 +3,7 @@ use mathlib.Core.Path.{_≡_, refl, sym, ap, ap₂, _∙_, subst, subst⁻¹, fu
 use mathlib.Core.Bool.{Bool, _&&_, _||_}
 use mathlib.Core.List.{List, Forall₂, Forall₂·nil, Forall₂·cons}
 use Prim.Native.Nat.{ℕ, _+_, _-_, _≤_}
-use lib.Dec.{T, eqb, ltb}
+use lib.Dec.{T, eqb}
 use lib.ListN.{length}
 use Rattle.code.specs.declared.settings.Settings.{Settings}
 use Rattle.code.specs.Settings.{delayOf, kOf}
@@ -22,7 +22,7 @@ use Rattle.layout.specs.Numbers.{acceptance}
 use Rattle.layout.proofs.Refusals.{reply-accepted, answer-accepted}
 use Rattle.library.specs.Calls.{settingsOf, Opening, openSenderBytes, openReceiverBytes}
 use Rattle.library.specs.Chains.{SendDone, sendsBytes, ReportDone, reportsBytes}
-use Rattle.library.specs.Claim.{SentAsBytes, lostAtBytes, lostSinceBytes, FaithfulBytes, HoldsBytes, Demand3Bytes}
+use Rattle.library.specs.Claim.{SentAsBytes, lostAtBytes, FaithfulBytes, HoldsBytes, Demand3Bytes}
 use Rattle.library.proofs.Partners as partner
 use Rattle.library.proofs.Chains.{opened-sender-read, SameSend, sends-read, opened-receiver-read, SameReport, reports-read}
 
@@ -38,11 +38,6 @@ lost-same (Forall₂·cons {a = m} {b = b} same rest) t =
     ap₂ _||_
     (ap₂ _&&_ (passed same) (ap₂ _&&_ (ap ofLoss (same .call)) (ap (λ (d : ℕ). eqb d t) (same .due))))
     (lost-same rest t)
-
-since-same : (opening : ℕ) {made : List ReportMade} {told : List ReportDone} → Forall₂ SameReport made told
-    → (t : ℕ) → lostSinceBytes opening told t ≡ lostSince opening made t
-unfolding lostSinceBytes lostSince
-since-same opening alike t = ap (λ (b : Bool). ltb t opening || b) (lost-same alike t)
 
 module _ {sends₁ : List SendMade} {sends₂ : List SendDone} (alike : Forall₂ SameSend sends₁ sends₂) {t : ℕ} {message frame : List ℕ} where
   -- what protocol sent, the library sent
@@ -120,7 +115,7 @@ module _ (s : Settings) (opening : ℕ) {sends₁ : List SendMade} {sends₂ : L
         let (r, listed-r, same) = partner.first told listed in
         let (message, frame, a, whole, out) =
         h .on-time t r listed-r (sym (same .due) ∙ slot) (subst T (passed same) taken)
-        (subst (λ (lost : ℕ → Bool). Fair s lost (t + 1 - kOf s) (t + delayOf s)) (fun-ext (since-same opening told)) fair) in
+        (subst (λ (lost : ℕ → Bool). Fair s (lostSince opening lost) (t + 1 - kOf s) (t + delayOf s)) (fun-ext (lost-same told)) fair) in
         (message, frame, sent-bytes sent a, same .reply ∙ ap replyNumber whole, same .message ∙ out);
   }
 

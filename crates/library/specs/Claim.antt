@@ -5,7 +5,7 @@ use mathlib.Core.Logic.{_↔_}
 use mathlib.Core.Bool.{Bool, false, _&&_, _||_}
 use mathlib.Core.List.{List, [], _∷_, List·Memᴰ}
 use Prim.Native.Nat.{ℕ, _+_, _-_, _≤_}
-use lib.Dec.{T, eqb, ltb}
+use lib.Dec.{T, eqb}
 use lib.ListN.{length}
 use Rattle.galois.specs.Byte.{Bytes}
 use Rattle.code.specs.declared.settings.Settings.{Settings}
@@ -15,7 +15,7 @@ use Rattle.protocol.specs.declared.Answer.the-variants as answer
 use Rattle.protocol.specs.declared.Reply.the-variants as reply
 use Rattle.protocol.specs.Lengths.{lastSlot, messageLen, frameLen, senderLen, receiverLen}
 use Rattle.protocol.specs.TwoLists.{Send, Report, heard}
-use Rattle.protocol.specs.Histories.{ofLoss}
+use Rattle.protocol.specs.Histories.{ofLoss, lostSince}
 use Rattle.protocol.specs.Claim.{NoCause}
 use Rattle.state.specs.State.{stateLen}
 use Rattle.protocol.specs.Numbers.{answerNumber, replyNumber}
@@ -36,10 +36,6 @@ pub record SentAsBytes (sent : List SendDone) (t : ℕ) (message frame : List �
 unfoldable pub lostAtBytes : List ReportDone → ℕ → Bool
 lostAtBytes [] t = false
 lostAtBytes (r ∷ rs) t = (acceptance (r .after .reply) && (ofLoss (r .call) && eqb (r .due) t)) || lostAtBytes rs t
-
--- slot t counts as a loss for a receiver opened at this slot: it is one of those before it, or was reported as a loss
-unfoldable pub lostSinceBytes : ℕ → List ReportDone → ℕ → Bool
-lostSinceBytes opening told t = ltb t opening || lostAtBytes told t
 
 -- each frame accepted is byte for byte the one that the sender handed out for that slot
 unfoldable pub FaithfulBytes : List SendDone → List ReportDone → Type 0
@@ -63,7 +59,7 @@ pub record HoldsBytes (s : Settings) (opening : ℕ) (sent : List SendDone) (tol
   -- if slots t - k + 1 to t + T are fair, those before the opening being losses, the report of slot t + T replies whole, and its message
   -- buffer is message t, as sent
   pub on-time : (t : ℕ) (b : ReportDone) → List·Memᴰ b told → b .due ≡ t + delayOf s → T (acceptance (b .after .reply))
-      → Fair s (lostSinceBytes opening told) (t + 1 - kOf s) (t + delayOf s)
+      → Fair s (lostSince opening (lostAtBytes told)) (t + 1 - kOf s) (t + delayOf s)
       → (message : List ℕ) × (frame : List ℕ) × SentAsBytes sent t message frame
       × (b .after .reply ≡ replyNumber reply.Whole) × (b .after .message ≡ message)
 

@@ -18,7 +18,7 @@ use Rattle.protocol.specs.Lengths.{bodyLen, rowLen}
 use Rattle.protocol.specs.Verdict.{rowAt, arrived, reportedAt}
 use Rattle.protocol.specs.Calls.{receivedZeros, rowBefore}
 use Rattle.protocol.specs.TwoLists.{heard, ReportMade, rowOf}
-use Rattle.protocol.specs.Histories.{lostSince}
+use Rattle.protocol.specs.Histories.{lostAt, lostSince}
 use Rattle.protocol.specs.Meaning.{Came}
 use Rattle.protocol.proofs.Receipts.{due-from}
 use Rattle.protocol.proofs.ReceivedRows.{Reached}
@@ -60,10 +60,10 @@ heard-byte f q = ap (λ (j : ℕ). getD (1 ∷ drop 14 f) j 0) (one-add q) ∙ g
 
 module _ {s : Settings} {d : ℕ} {told : List ReportMade} {t i p : ℕ} where
   -- a slot that was not lost has a row that says received
-  kept-flag : {l : List ℕ} → Became s d told t i p l → lostPosition (lostSince d told) t i p ≡ false → getD l 0 0 ≡ 1
+  kept-flag : {l : List ℕ} → Became s d told t i p l → lostPosition (lostSince d (lostAt told)) t i p ≡ false → getD l 0 0 ≡ 1
   unfolding receivedZeros
   kept-flag (Became.early h) kept = refl
-  kept-flag (Became.lost late gone) kept = absurd (true≢false (sym (position-late (lostSince d told) t i p late ∙ gone) ∙ kept))
+  kept-flag (Became.lost late gone) kept = absurd (true≢false (sym (position-late (lostSince d (lostAt told)) t i p late ∙ gone) ∙ kept))
   kept-flag (Became.heard f late h) kept = refl
 
   -- a row that says received holds what came
@@ -104,7 +104,7 @@ module _ {s : Settings} {d : ℕ} {told : List ReportMade} {rows : List ℕ} {du
   row = slotRow s (rowBefore s) d told t i p
 
   -- a position whose slot was reported and not lost is known
-  pub known-if : t + p < due + i → lostPosition (lostSince d told) t i p ≡ false → T (arrived s rows due t i v .known p)
+  pub known-if : t + p < due + i → lostPosition (lostSince d (lostAt told)) t i p ≡ false → T (arrived s rows due t i v .known p)
   known-if now kept = known-flag c t to i p v hi .1 (now, kept-flag (became c t i p hi now) kept)
 
   -- what came stands in its row

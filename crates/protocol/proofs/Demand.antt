@@ -21,7 +21,7 @@ use Rattle.protocol.specs.Codewords.{source}
 use Rattle.protocol.specs.Verdict.{arrived}
 use Rattle.protocol.specs.Calls.{rowBefore, openReceiverOf}
 use Rattle.protocol.specs.TwoLists.{Send, SendMade, heard, ReportMade, reports}
-use Rattle.protocol.specs.Histories.{SentAs, messageAt, accepts, Heard, lostSince}
+use Rattle.protocol.specs.Histories.{SentAs, messageAt, accepts, Heard, lostAt, lostSince}
 use Rattle.protocol.specs.Meaning.{Came}
 use Rattle.protocol.specs.Claim.{Faithful, Holds, Demand3}
 use Rattle.protocol.proofs.TrueWords.{symbol-early, symbol-slot}
@@ -70,15 +70,15 @@ module _ (s : Settings) (ok : T (accepted s)) (calls : List Send) (bytes : (c : 
 
   -- so the rows tell the truth about message t, from any point on at which it can be told
   truthful : (rows : List ℕ) (due t : ℕ) → Reached s (rowBefore s) d told rows due → due ≤ t + delayOf s + 1
-      → Truthful s rows due t messages (lostSince d told)
+      → Truthful s rows due t messages (lostSince d (lostAt told))
   truthful rows due t c to = record {
-    heard-known = λ i v p hi hv hp now kept. known-if c t to i p v hi now (not-true (lostPosition (lostSince d told) t i p) kept);
+    heard-known = λ i v p hi hv hp now kept. known-if c t to i p v hi now (not-true (lostPosition (lostSince d (lostAt told)) t i p) kept);
     known-true = λ i v p hi hv hp known.
         came-true t i v p (arrived s rows due t i v .byte p) hp hv (known-came c t to i p v hi hp hv _ .0 (known, refl) .1);
   }
 
   module _ (t : ℕ) (r : ReportMade) (listed : List·Memᴰ r told) (slot : r .before .due ≡ t + delayOf s)
-      (passed : T (accepts (r .after .reply))) (fair : Fair s (lostSince d told) (t + 1 - kOf s) (t + delayOf s)) where
+      (passed : T (accepts (r .after .reply))) (fair : Fair s (lostSince d (lostAt told)) (t + 1 - kOf s) (t + delayOf s)) where
     -- the report has reached slot t + T + 1
     reached : Reached s (rowBefore s) d told (r .after .rows) (t + delayOf s + 1)
     reached =
@@ -91,11 +91,11 @@ module _ (s : Settings) (ok : T (accepted s)) (calls : List Send) (bytes : (c : 
         let h : Shape s = shape s ok in
         let stretch = fair t (delayOf s + 1) (omega arith) (omega arith) (omega arith) in
         ⊎-elim
-        (λ all. absurd (not-all-lost s h (lostSince d told) t stretch all))
+        (λ all. absurd (not-all-lost s h (lostSince d (lostAt told)) t stretch all))
         (λ found.
         let heard = heard-since reached (t + found .0) (omega (arith, found .1)) (found .2) in
         (t + found .0, heard .0, omega arith, heard .1))
-        (all-or-one (delayOf s + 1) (λ x. lostSince d told (t + x)))
+        (all-or-one (delayOf s + 1) (λ x. lostSince d (lostAt told) (t + x)))
 
     -- so message t was sent
     was-sent : (message : List ℕ) × (frame : List ℕ) × SentAs sent t message frame
@@ -115,13 +115,13 @@ module _ (s : Settings) (ok : T (accepted s)) (calls : List Send) (bytes : (c : 
         let rows = r .after .rows in
         let due : ℕ = t + delayOf s + 1 in
         let b = message-byte s calls bytes in
-        let true-rows : Truthful s rows due t messages (lostSince d told) = truthful rows due t reached (omega arith) in
-        let whole = recovered s (shape s ok) rows due t messages (lostSince d told) b true-rows fair (omega arith) in (
+        let true-rows : Truthful s rows due t messages (lostSince d (lostAt told)) = truthful rows due t reached (omega arith) in
+        let whole = recovered s (shape s ok) rows due t messages (lostSince d (lostAt told)) b true-rows fair (omega arith) in (
           message,
           frame,
           a,
           tells .0 ∙ whole,
-          tells .1 ∙ whole-message s (shape s ok) rows due t messages (lostSince d told) b true-rows whole full ∙ same,
+          tells .1 ∙ whole-message s (shape s ok) rows due t messages (lostSince d (lostAt told)) b true-rows whole full ∙ same,
         )
 
   -- all of it

@@ -63,6 +63,6 @@ openings = record {
   by-slots = λ s slot σ j low high hj. begins s slot σ j low high hj;
   by-rows = by-rows;
   from-start = λ s rows. from-start s rows (openCause s (receiverLen s) rows) refl;
-  no-loss-before = λ told t. rw (le-ltb t 0 zero-le);
+  no-loss-before = λ lost t. rw (le-ltb t 0 zero-le);
   first-told = first-told;
 }

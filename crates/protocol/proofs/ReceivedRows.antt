@@ -14,7 +14,7 @@ use Rattle.code.proofs.Shape.{Shape, shape}
 use Rattle.protocol.specs.Lengths.{rowLen, rowCount, receiverLen}
 use Rattle.protocol.specs.Calls.{Reported, movedOn, rowBefore, openedRows, openReceiverOf}
 use Rattle.protocol.specs.TwoLists.{Report, ReportMade, reports, rowOf}
-use Rattle.protocol.specs.Histories.{accepts, ReportedAs, Heard, lostSince}
+use Rattle.protocol.specs.Histories.{accepts, ReportedAs, Heard, lostAt, lostSince}
 use Rattle.protocol.specs.Claim.{NoCause}
 use Rattle.protocol.proofs.Rings.{since, since-first, since-slot, Ring, ring-step}
 use Rattle.protocol.proofs.ReportRows.{length-rowOf}
@@ -103,13 +103,13 @@ pub record Reached (s : Settings) (first : ℕ → List ℕ) (d : ℕ) (told : L
 
 -- then a slot that was reported, and does not count as a loss, was heard
 pub heard-since : {s : Settings} {first : ℕ → List ℕ} {d : ℕ} {told : List ReportMade} {rows : List ℕ} {due : ℕ}
-    → Reached s first d told rows due → (τ : ℕ) → τ < due → lostSince d told τ ≡ false → (f : List ℕ) × Heard told τ f
+    → Reached s first d told rows due → (τ : ℕ) → τ < due → lostSince d (lostAt told) τ ≡ false → (f : List ℕ) × Heard told τ f
 heard-since {d = d} {told} c τ now kept =
     ⊎-elim
     (λ from.
     let (call, a) = c .reported τ from now in
-    ⊎-elim (λ lost. absurd (subst T (sym (lost-from d told τ from) ∙ kept) lost)) (λ h. h) (either-way (c .begun .chain) τ call a))
-    (λ before. absurd (true≢false (sym (lost-before d told τ before) ∙ kept))) (le-or-lt d τ)
+    ⊎-elim (λ lost. absurd (subst T (sym (lost-from d (lostAt told) τ from) ∙ kept) lost)) (λ h. h) (either-way (c .begun .chain) τ call a))
+    (λ before. absurd (true≢false (sym (lost-before d (lostAt told) τ before) ∙ kept))) (le-or-lt d τ)
 
 module _ {s : Settings} {first : ℕ → List ℕ} {d : ℕ} {told : List ReportMade} (b : Begun s first d told) where
   history-agrees : Agrees s told (history s first d told)

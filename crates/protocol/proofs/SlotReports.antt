@@ -1,6 +1,6 @@
 -- Which slots of a chain were heard and which were lost: each slot up to that of an accepted report was one or the other.
 use mathlib.Core.Path.{_≡_, refl, sym, ap, _∙_}
-use mathlib.Core.Bool.{true}
+use mathlib.Core.Bool.{Bool, true}
 use mathlib.Core.List.{List, _∷_, List·Memᴰ, List·Memᴰ·head, List·Memᴰ·tail, List·Memᴰ·not-nil, List·Memᴰ·cases-cons}
 use mathlib.Core.Logic.{_⊎_, inl, inr, ⊎-elim}
 use mathlib.Core.Option.{Option, some}
@@ -67,13 +67,13 @@ reported-to chain r listed ok τ low high =
 
 -- ---- lost or heard
 
-pub lost-before : (d : ℕ) (told : List ReportMade) (τ : ℕ) → τ < d → lostSince d told τ ≡ true
+pub lost-before : (d : ℕ) (lost : ℕ → Bool) (τ : ℕ) → τ < d → lostSince d lost τ ≡ true
 unfolding lostSince
-lost-before d told τ h = rw (lt-ltb τ d h)
+lost-before d lost τ h = rw (lt-ltb τ d h)
 
-pub lost-from : (d : ℕ) (told : List ReportMade) (τ : ℕ) → d ≤ τ → lostSince d told τ ≡ lostAt told τ
+pub lost-from : (d : ℕ) (lost : ℕ → Bool) (τ : ℕ) → d ≤ τ → lostSince d lost τ ≡ lost τ
 unfolding lostSince
-lost-from d told τ h = rw (le-ltb τ d h)
+lost-from d lost τ h = rw (le-ltb τ d h)
 
 module _ {s : Settings} {d : ℕ} {rows : List ℕ} {told : List ReportMade} (chain : Chain s d rows told) where
   -- the report of a slot

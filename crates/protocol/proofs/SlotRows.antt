@@ -14,7 +14,7 @@ use Rattle.protocol.specs.Lengths.{rowLen, rowCount}
 use Rattle.protocol.specs.Verdict.{rowAt}
 use Rattle.protocol.specs.Calls.{receivedZeros, rowBefore}
 use Rattle.protocol.specs.TwoLists.{Report, ReportMade, rowOf}
-use Rattle.protocol.specs.Histories.{ReportedAs, Heard, lostSince}
+use Rattle.protocol.specs.Histories.{ReportedAs, Heard, lostAt, lostSince}
 use Rattle.protocol.proofs.Rings.{since-first, since-slot}
 use Rattle.protocol.proofs.SlotReports.{call-as, lost-before, lost-from, lost-as}
 use Rattle.protocol.proofs.ReceivedRows.{rowIn, rowOfSlot, history, Reached}
@@ -58,7 +58,7 @@ module _ {s : Settings} {first : ℕ → List ℕ} {d : ℕ} {told : List Report
 -- the row of slot t + p - i, of a receiver that began at slot d: the slot is before slot 0, or lost, or was heard
 pub data Became (s : Settings) (d : ℕ) (told : List ReportMade) (t i p : ℕ) : List ℕ → Type 0 where
   early : t + p < i → Became s d told t i p (receivedZeros s)
-  lost : i ≤ t + p → lostSince d told (t + p - i) ≡ true → Became s d told t i p (replicate (rowLen s) 0)
+  lost : i ≤ t + p → lostSince d (lostAt told) (t + p - i) ≡ true → Became s d told t i p (replicate (rowLen s) 0)
   heard : (f : List ℕ) → i ≤ t + p → Heard told (t + p - i) f → Became s d told t i p (1 ∷ drop 14 f)
 
 module _ {s : Settings} {d : ℕ} {told : List ReportMade} {rows : List ℕ} {due : ℕ} (c : Reached s (rowBefore s) d told rows due)
@@ -75,7 +75,7 @@ module _ {s : Settings} {d : ℕ} {told : List ReportMade} {rows : List ℕ} {du
   unfolding rowOf
   by-report h (Report.heard f m) a = Became.heard f (omega arith) record { message = m; by = a }
   by-report h (Report.missed m) a =
-      Became.lost (omega arith) (lost-from d told (t + p - i) (omega arith) ∙ lost-as (c .begun .chain) (t + p - i) (Report.missed m) a)
+      Became.lost (omega arith) (lost-from d (lostAt told) (t + p - i) (omega arith) ∙ lost-as (c .begun .chain) (t + p - i) (Report.missed m) a)
 
   -- each slot that was reported, or is before the first one, is one of these
   pub became : t + p < due + i → Became s d told t i p (slotRow s (rowBefore s) d told t i p)
@@ -88,6 +88,6 @@ module _ {s : Settings} {d : ℕ} {told : List ReportMade} {rows : List ℕ} {du
       ⊎-elim
       (λ late.
       subst⁻¹ (Became s d told t i p) (row-missed late before)
-      (Became.lost late (lost-before d told (t + p - i) (omega arith))))
+      (Became.lost late (lost-before d (lostAt told) (t + p - i) (omega arith))))
       (λ soon. subst⁻¹ (Became s d told t i p) (row-early soon) (Became.early soon)) (le-or-lt i (t + p)))
       (le-or-lt (d + i) (t + p))

@@ -15,7 +15,7 @@ use Rattle.protocol.specs.Lengths.{lastSlot, messageLen, frameLen, sende
 use Rattle.protocol.specs.Frame.{header}
 use Rattle.protocol.specs.Calls.{OpenedSender, OpenedReceiver, openSenderOf, openReceiverOf}
 use Rattle.protocol.specs.TwoLists.{Send, SendMade, sends, Report, heard, missed, ReportMade, reports}
-use Rattle.protocol.specs.Histories.{SentAs, lostSince}
+use Rattle.protocol.specs.Histories.{SentAs, lostAt, lostSince}
 -- the crates above cite it from here
 pub use Rattle.protocol.specs.Histories.{accepts}
 
@@ -55,7 +55,7 @@ pub record Holds (s : Settings) (opening : ℕ) (sent : List SendMade) (told : L
   -- if slots t - k + 1 to t + T are fair, those before the opening being losses, the report of slot t + T hands out message t whole, as
   -- sent
   pub on-time : (t : ℕ) (r : ReportMade) → List·Memᴰ r told → r .before .due ≡ t + delayOf s → T (accepts (r .after .reply))
-      → Fair s (lostSince opening told) (t + 1 - kOf s) (t + delayOf s)
+      → Fair s (lostSince opening (lostAt told)) (t + 1 - kOf s) (t + delayOf s)
       → (message : List ℕ) × (frame : List ℕ) × SentAs sent t message frame
       × (r .after .reply ≡ reply.Whole) × (r .after .message ≡ message)
 

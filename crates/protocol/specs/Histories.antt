@@ -68,6 +68,6 @@ unfoldable pub lostAt : List ReportMade → ℕ → Bool
 lostAt [] t = false
 lostAt (r ∷ rs) t = (accepts (r .after .reply) && (ofLoss (r .call) && eqb (r .before .due) t)) || lostAt rs t
 
--- slot t counts as a loss for a receiver opened at this slot: it is one of those before it, or was reported as a loss
-unfoldable pub lostSince : ℕ → List ReportMade → ℕ → Bool
-lostSince opening told t = ltb t opening || lostAt told t
+-- slot t counts as a loss for a receiver opened at this slot: it is one of those before it, or was lost from there on
+unfoldable pub lostSince : ℕ → (ℕ → Bool) → ℕ → Bool
+lostSince opening lost t = ltb t opening || lost t

@@ -1,7 +1,7 @@
 -- Document 02 §3, as one statement about openings at any slot: the rows by slots and by rows, what the first report tells, and that the
 -- opening at slot 0 is document 01's.
 use mathlib.Core.Path.{_≡_}
-use mathlib.Core.Bool.{cond}
+use mathlib.Core.Bool.{Bool, cond}
 use mathlib.Core.List.{List}
 use Prim.Native.Nat.{ℕ, _+_, _*_, _%_, _≤_, _<_}
 use lib.Dec.{T, ltb}
@@ -15,8 +15,8 @@ use Rattle.protocol.specs.Rows.{joined}
 use Rattle.protocol.specs.Causes.{openCause}
 use Rattle.protocol.specs.Numbers.{replyNumber}
 use Rattle.protocol.specs.Calls.{receivedZeros, rowBefore, openedRows, OpenedReceiver, openReceiverOf, Reported}
-use Rattle.protocol.specs.TwoLists.{Report, reportOf, ReportMade}
-use Rattle.protocol.specs.Histories.{accepts, lostAt, lostSince}
+use Rattle.protocol.specs.TwoLists.{Report, reportOf}
+use Rattle.protocol.specs.Histories.{accepts, lostSince}
 use Rattle.protocol.specs.Meaning.{inTime, Tells}
 
 -- row r after an opening at this slot: lost exactly if r is below it
@@ -42,9 +42,9 @@ pub record Openings : Type 0 where
       → getD (openedRows s slot) (σ % rowCount s * rowLen s + j) 0 ≡ getD (rowBefore s σ) j 0
   -- the same by rows: row r is lost exactly if r is below the slot
   pub by-rows : (s : Settings) (slot : ℕ) → openedRows s slot ≡ joined (rowCount s) (firstRow s slot)
-  -- at slot 0 it is document 01's, whatever is lent, and then no slot counts as a loss but those reported as one
+  -- at slot 0 it is document 01's, whatever is lent, and then no slot counts as a loss but those that were lost
   pub from-start : (s : Settings) (rows : List ℕ) → openReceiverOf s 0 rows ≡ openFromStart s rows
-  pub no-loss-before : (told : List ReportMade) (t : ℕ) → lostSince 0 told t ≡ lostAt told t
+  pub no-loss-before : (lost : ℕ → Bool) (t : ℕ) → lostSince 0 lost t ≡ lost t
   -- opened at slot t + T, its first accepted report tells of message t, from before the opening, and not that there is none yet
   pub first-told : (s : Settings) → T (accepted s) → (t : ℕ) → t + delayOf s ≤ lastSlot
       → (rows : List ℕ) → length rows ≡ receiverLen s → (call : Report)
