@@ -41,14 +41,18 @@ fn with_point(products: [Gf16; 16], row: u8, point: u16) -> [Gf16; 16]
     out
 }
 
-// The products over the first zero points of a row, as many as are asked for.
+// The products over the first zero points of a row, as many as are asked for: 1 over none, and then a point more each time.
+// They stand in two arrays by turns, those over m points in array m mod 2.
 pub fn spread_row(scattered: u8, row: u8, points: u8) -> [Gf16; 16]
     ensures { λ r. ⌜ r ≡ productRow scattered row points ⌝ }
 {
-    if points == 0 {
-        return [Gf16(1); 16];
+    let mut products = [[Gf16(1); 16]; 2];
+    let mut m: u8 = 0;
+    while m < points {
+        let from = (m % 2) as usize;
+        let point = zero_point(scattered, row, m);
+        products[1 - from] = with_point(products[from], row, point);
+        m += 1;
     }
-    let fewer = points - 1;
-    let products = spread_row(scattered, row, fewer);
-    with_point(products, row, zero_point(scattered, row, fewer))
+    products[(points % 2) as usize]
 }
