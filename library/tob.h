@@ -1,7 +1,8 @@
 /* tob.h: the static library's calls, for C. Each is proved to do what its comment says, for any bytes at all.
  *
- * Settings are five bytes: W, T, B, N and L, the window, the delay, the burst, the scattered losses and the lanes.
- * They are accepted where 1 <= N <= B <= T, T - N + 1 + B <= 16, T + 1 <= W and 1 <= L <= 64.
+ * Settings are five bytes: W, T, B, N and L, the window, the delay as set, the burst, the scattered losses and the
+ * lanes. The delay that is meant below, D, is the smaller of T and W - 1. Settings are accepted where 1 <= N <= B <= D,
+ * D - N + 1 + B <= 16 and 1 <= L <= 64. Two ends whose T differ have different settings, even where D is the same.
  *
  * The caller keeps two buffers for each end between its calls: the state, as long as tob_state_len says at either end,
  * and the rows, as long as tob_sender_len or tob_receiver_len says. An opening fills both, and every later call gets
@@ -72,7 +73,7 @@ uint32_t tob_open_receiver(const uint8_t settings[TOB_SETTINGS_LEN], uint8_t *st
                            size_t rows_len);
 
 /* Opens a receiver at a slot, which is then the slot due: writes its state and its rows, whatever they held. The slots
- * before it, from 0 on, are losses. Their messages are told like others, from what arrives: at slot t message t - T.
+ * before it, from 0 on, are losses. Their messages are told like others, from what arrives: at slot t message t - D.
  * TOB_BAD_SETTINGS, TOB_BAD_LENGTH (state or rows), TOB_LATE_OPENING, or else TOB_ACCEPTED. */
 uint32_t tob_open_receiver_at(const uint8_t settings[TOB_SETTINGS_LEN], uint32_t slot, uint8_t *state, size_t state_len,
                               uint8_t *rows, size_t rows_len);
@@ -84,17 +85,17 @@ uint32_t tob_send(uint8_t *state, size_t state_len, uint8_t *rows, size_t rows_l
                   size_t message_len, uint8_t *frame, size_t frame_len);
 
 /* Reports the frame that was heard in the slot due, t: writes the rows, the state, whose slot due moves on by one, and
- * the message buffer: message t - T where the reply is TOB_WHOLE, else zeros.
+ * the message buffer: message t - D where the reply is TOB_WHOLE, else zeros.
  * TOB_BAD_LENGTH (state), TOB_BAD_SETTINGS (state), TOB_BAD_LENGTH (rows, frame or message), TOB_PAST_LAST_SLOT,
- * TOB_OTHER_MARK, TOB_OTHER_SETTINGS, TOB_OTHER_SLOT, or else TOB_NONE_YET (while t < T), TOB_WHOLE, TOB_LOST or
+ * TOB_OTHER_MARK, TOB_OTHER_SETTINGS, TOB_OTHER_SLOT, or else TOB_NONE_YET (while t < D), TOB_WHOLE, TOB_LOST or
  * TOB_CLASH. */
 uint32_t tob_heard(uint8_t *state, size_t state_len, uint8_t *rows, size_t rows_len, const uint8_t *frame,
                    size_t frame_len, uint8_t *message, size_t message_len);
 
 /* Reports that the slot due, t, was lost: writes the rows, the state, whose slot due moves on by one, and the message
- * buffer: message t - T where the reply is TOB_WHOLE, else zeros.
+ * buffer: message t - D where the reply is TOB_WHOLE, else zeros.
  * TOB_BAD_LENGTH (state), TOB_BAD_SETTINGS (state), TOB_BAD_LENGTH (rows or message), TOB_PAST_LAST_SLOT, or else
- * TOB_NONE_YET (while t < T), TOB_WHOLE, TOB_LOST or TOB_CLASH. */
+ * TOB_NONE_YET (while t < D), TOB_WHOLE, TOB_LOST or TOB_CLASH. */
 uint32_t tob_lost(uint8_t *state, size_t state_len, uint8_t *rows, size_t rows_len, uint8_t *message,
                   size_t message_len);
 

@@ -132,7 +132,7 @@ impl Placed {
 fn sending(engine: Engine, settings: &Settings, due: u32) -> Case {
     let (mut sender, count) = (Sender::open(plain(), settings, due), rows_before(settings));
     let first = sender.frame.clone();
-    let period = settings[1] as usize - settings[3] as usize + settings[2] as usize;
+    let period = sizes(settings).n - 1;
     let messages: Vec<Vec<u8>> = (0..period).map(|_| sender.draws.bytes(sender.length)).collect();
     for slot in 0..count {
         sender.send(&messages[slot as usize % period]);
@@ -145,9 +145,14 @@ fn sending(engine: Engine, settings: &Settings, due: u32) -> Case {
     Case::placed(engine, true, before, row, [&sender.rows, &given, &first]).settled(0)
 }
 
+/// The sizes of settings that are timed.
+fn sizes(settings: &Settings) -> shape::Shape {
+    shape::Shape::of(settings).expect("accepted settings")
+}
+
 /// Two turns of a receiver's rows.
 fn rows_before(settings: &Settings) -> u32 {
-    2 * (2 * u32::from(settings[1]) + 1)
+    2 * (2 * sizes(settings).delay as u32 + 1)
 }
 
 /// A receiver that heard all slots but those lost, about to hear the frame at which the first one's message is due.
@@ -158,7 +163,8 @@ fn reporting(engine: Engine, settings: &Settings, due: u32, lost: &[u32]) -> Cas
     maker.set_due(&mut state, due);
     let mut out = vec![0; sender.length];
     let first = rows_before(settings);
-    for slot in 0..first + u32::from(settings[1]) {
+    let last = first + sizes(settings).delay as u32;
+    for slot in 0..last {
         let message = sender.draws.bytes(sender.length);
         sender.send(&message);
         let gone = slot >= first && lost.contains(&(slot - first));
@@ -170,9 +176,9 @@ fn reporting(engine: Engine, settings: &Settings, due: u32, lost: &[u32]) -> Cas
     let message = sender.draws.bytes(sender.length);
     sender.send(&message);
     let count = rows.len() / (sender.frame.len() - 13);
-    let row = (due + first + u32::from(settings[1])) as usize % count * (sender.frame.len() - 13);
+    let row = (due + last) as usize % count * (sender.frame.len() - 13);
     assert_eq!((engine.open_receiver)(settings, &mut state, &mut rows.clone()), 0);
-    engine.set_due(&mut state, due + first + u32::from(settings[1]));
+    engine.set_due(&mut state, due + last);
     Case::placed(engine, false, state, row, [&rows, &sender.frame, &out]).settled(17)
 }
 

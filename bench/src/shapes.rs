@@ -1,6 +1,6 @@
 //! The shapes that are timed.
 
-/// A code by T, B and N; its window is the narrowest.
+/// A code by T, B and N; its window is T + 1.
 #[derive(Clone, Copy, Debug, PartialEq, Eq)]
 pub struct Shape {
     pub delay: u8,

@@ -1,5 +1,6 @@
 //! The Rust versions beside the reference: each call from copies of the same state and rows.
 
+use bench::alike;
 use bench::engine::{self, Engine, STATE_LEN};
 use bench::link::receiver::receiver_len;
 use bench::link::sender::sender_len;
@@ -8,7 +9,7 @@ use reference::patterns::Draws;
 use reference::receiver::Reply;
 use reference::settings::{every_code, Settings};
 use reference::state::{ReceiverState, Refusal, SenderState};
-use reference::{receiver, sender};
+use reference::{frame, receiver, sender};
 
 /// The versions.
 const VERSIONS: [Engine; 2] = [engine::plain(), engine::planes()];
@@ -133,13 +134,13 @@ impl Link {
     }
 }
 
-/// Every accepted code with so many lanes; one call in `each` is compared.
-fn every(lanes: u8, slots: usize, each: usize, least: usize) {
+/// Every accepted code with so many lanes, and T set as this says of its delay; one call in `each` is compared.
+fn every(lanes: u8, set: fn(u8) -> u8, slots: usize, each: usize, least: usize) {
     for version in VERSIONS {
         let mut met = [0; 32];
         for (number, code) in every_code().into_iter().enumerate() {
             let due = [0, 100, 3_999_000_000][number % 3];
-            let settings = Settings { lanes, ..code };
+            let settings = Settings { delay: set(code.delay), lanes, ..code };
             let mut link = Link::open(version, settings, due, Draws::from(number as u64 + 1));
             for odds in [2, 4, 10] {
                 link.run(slots, odds, each, &mut met);
@@ -152,37 +153,77 @@ fn every(lanes: u8, slots: usize, each: usize, least: usize) {
 
 #[test]
 fn one_lane() {
-    every(1, 30, 2, 500);
+    every(1, |delay| delay, 30, 2, 500);
 }
 
 #[test]
 fn three_lanes() {
-    every(3, 30, 8, 200);
+    every(3, |delay| delay, 30, 8, 200);
 }
 
 #[test]
 fn nine_to_sixty_three_lanes() {
     for lanes in [9, 16, 63] {
-        every(lanes, 16, 200, 5);
+        every(lanes, |delay| delay, 16, 200, 5);
     }
 }
 
 #[test]
 fn sixty_four_lanes() {
-    every(64, 30, 60, 20);
+    every(64, |delay| delay, 30, 60, 20);
+}
+
+#[test]
+fn windows_at_or_below_t() {
+    every(1, |delay| delay + 1, 20, 4, 100);
+    every(2, |_| 255, 20, 4, 100);
+    every(64, |_| 255, 30, 120, 5);
+}
+
+#[test]
+fn broadcasts_are_alike_where_the_window_makes_the_delay() {
+    for settings in [[3, 9, 2, 1, 1], [9, 9, 8, 1, 2], [12, 255, 8, 4, 3]] {
+        let [whole, lost, _] = alike::check(&VERSIONS, &settings, 80);
+        assert!(whole > 0 && lost > 0, "{settings:?}: {whole} whole, {lost} lost");
+    }
 }
 
 #[test]
 fn unlost_true_broadcasts_are_whole() {
     let both = VERSIONS.into_iter().flat_map(|version| every_code().into_iter().map(move |code| (version, code)));
     for (version, code) in both {
-        let mut link = Link::open(version, Settings { lanes: 8, ..code }, 0, Draws::start());
-        for slot in 0..3 * code.n() {
-            let frame = link.send(false);
-            let expected = if slot < code.t() { 16 } else { 17 };
-            assert_eq!(link.report(Some(&frame), false), expected);
+        for delay in [code.delay, 255] {
+            let mut link = Link::open(version, Settings { delay, lanes: 8, ..code }, 0, Draws::start());
+            for slot in 0..3 * code.n() {
+                let frame = link.send(false);
+                let expected = if slot < code.t() { 16 } else { 17 };
+                assert_eq!(link.report(Some(&frame), false), expected);
+            }
         }
     }
+}
+
+#[test]
+fn lengths_for_every_window_and_delay() {
+    let mut accepted = 0;
+    for [window, delay] in (0..=u16::MAX).map(u16::to_be_bytes) {
+        for [burst, scattered, lanes] in [[1, 1, 1], [2, 1, 64], [3, 3, 5], [8, 1, 2], [15, 15, 3], [2, 2, 65]] {
+            let settings = Settings { window, delay, burst, scattered, lanes };
+            let five = five(&settings);
+            let found = [shape::message_len(&five), shape::frame_len(&five), sender_len(&five), receiver_len(&five)];
+            assert_eq!(found, lengths(&settings), "{settings:?}");
+            accepted += usize::from(found != [0; 4]);
+        }
+    }
+    assert!(accepted > 10_000, "{accepted}");
+}
+
+/// The same lengths by the reference: 0 for settings that are not accepted.
+fn lengths(s: &Settings) -> [usize; 4] {
+    if !s.accepted() {
+        return [0; 4];
+    }
+    [frame::message_length(s), frame::length(s), sender::rows_length(s), receiver::rows_length(s)]
 }
 
 #[test]
@@ -207,10 +248,13 @@ fn refusals(version: Engine) {
     assert_eq!((link.report(Some(&good), true), link.report(None, true)), (3, 3));
     link.send(true);
     assert_eq!(link.report(Some(&good[..20]), true), 2);
-    link.receiver.0[0] = 4;
-    link.settings.window = 4;
-    assert_eq!(link.report(Some(&good), false), 1);
     let mut state = [9; STATE_LEN];
-    assert_eq!((version.open_receiver)(&[4, 4, 2, 2, 3], &mut state, &mut []), 1);
+    // A window of 4 makes the delay 3, which has other lengths; one of 2 makes it 1, which is below B.
+    for (window, expected) in [(4, 2), (2, 1)] {
+        link.receiver.0[0] = window;
+        link.settings.window = window;
+        assert_eq!(link.report(Some(&good), true), expected);
+        assert_eq!((version.open_receiver)(&[window, 4, 2, 2, 3], &mut state, &mut []), expected);
+    }
     assert_eq!(((version.open_sender)(&five(&settings), &mut state, &mut []), state), (2, [0; STATE_LEN]));
 }

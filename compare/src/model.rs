@@ -206,6 +206,8 @@ mod tests {
         assert_eq!(reply(settings(), END), 3);
         assert_eq!(reply(settings(), u32::MAX), 3);
         assert_eq!(reply(other, u32::MAX), 1);
+        // The delay is 1, below B.
+        assert_eq!(reply(Settings { window: 2, ..settings() }, 3), 1);
         let sender = |settings| sender_bytes(&SenderState { settings, due: 3 });
         assert_eq!(lost(sender(settings()), settings()).0, 1);
         assert_eq!(lost(sender(other)[1..].to_vec(), other).0, 2);
@@ -221,6 +223,15 @@ mod tests {
         let start = [0x54, 0x4F, 0x42, 0x52, 4, 3, 2, 2, 1, 1, 2, 3, 4, 5, 6, 7, 8];
         assert_eq!(receiver_bytes(&state), [&start[..], &[0; 3]].concat());
         assert_eq!(receiver_of(&receiver_bytes(&state)), Ok(state));
+    }
+
+    #[test]
+    fn a_state_keeps_t_as_set() {
+        // The delays are 2 and 3.
+        for [window, delay] in [[3, 3], [4, 255]] {
+            let short = Settings { window, delay, ..settings() };
+            assert_eq!(lost(state(short, 3), short), (18, state(short, 4)));
+        }
     }
 
     #[test]

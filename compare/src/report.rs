@@ -14,6 +14,9 @@ const CODES: usize = 372;
 
 type Code = (u8, u8, u8);
 
+/// The accepted replies of each kind of call that codes have met.
+type Accepted = BTreeMap<Code, BTreeSet<(Kind, u32)>>;
+
 /// What there is to say of a message that was promised.
 #[derive(Clone, Copy, Default)]
 pub struct Promise {
@@ -23,15 +26,20 @@ pub struct Promise {
     pub earlier: bool,
     /// That opening left no row received.
     pub no_row: bool,
+    /// Its own slot was lost.
+    pub recovered: bool,
 }
 
 #[derive(Default)]
 pub struct Met {
     replies: BTreeMap<(Kind, u32), usize>,
-    /// The accepted replies that each code has met.
-    codes: BTreeMap<Code, BTreeSet<(Kind, u32)>>,
+    codes: Accepted,
+    /// Those with a window at or below T as set.
+    short: Accepted,
     lanes: BTreeSet<u8>,
     windows: BTreeSet<u8>,
+    /// T as set.
+    delays: BTreeSet<u8>,
     /// Settings handed to the four length functions.
     pub lengths: usize,
     /// Messages due under fair losses; each was handed out whole, as sent.
@@ -42,6 +50,9 @@ pub struct Met {
     earlier: BTreeMap<Code, usize>,
     /// How many of those behind an opening that left no row received, by code.
     earlier_with_no_row: BTreeMap<Code, usize>,
+    /// How many of the messages had their own slot lost, where the window was at or below T as set,
+    /// by code.
+    recovered_when_short: BTreeMap<Code, usize>,
 }
 
 impl Met {
@@ -50,8 +61,12 @@ impl Met {
         *self.replies.entry((kind, reply)).or_default() += 1;
         if let (true, Some(s)) = (matches!(reply, 0 | 16..=19), settings) {
             self.codes.entry(code_of(&s)).or_default().insert((kind, reply));
+            if is_short(&s) {
+                self.short.entry(code_of(&s)).or_default().insert((kind, reply));
+            }
             self.lanes.insert(s.lanes);
             self.windows.insert(s.window);
+            self.delays.insert(s.delay);
         }
     }
 
@@ -62,6 +77,7 @@ impl Met {
             (promise.in_a_fade, &mut self.fades),
             (promise.earlier, &mut self.earlier),
             (promise.earlier && promise.no_row, &mut self.earlier_with_no_row),
+            (promise.recovered && is_short(settings), &mut self.recovered_when_short),
         ] {
             if holds {
                 *counts.entry(code_of(settings)).or_default() += 1;
@@ -71,7 +87,7 @@ impl Met {
 
     /// Each kind of promise that some codes can have: what it is called, how often each code met
     /// it, and how many codes there are that can.
-    fn promises(&self) -> [(&'static str, &BTreeMap<Code, usize>, usize); 3] {
+    fn promises(&self) -> [(&'static str, &BTreeMap<Code, usize>, usize); 4] {
         [
             ("promised by the wider rule only", &self.fades, with_fades()),
             ("of slots before the opening", &self.earlier, every_code().len()),
@@ -79,6 +95,11 @@ impl Met {
                 "of slots before an opening that left no row received",
                 &self.earlier_with_no_row,
                 with_long_bursts(),
+            ),
+            (
+                "of a lost slot, with a window at or below T as set",
+                &self.recovered_when_short,
+                every_code().len(),
             ),
         ]
     }
@@ -95,9 +116,9 @@ impl Met {
         self.replies.iter().filter(|((_, of), _)| *of == reply).map(|(_, count)| count).sum()
     }
 
-    /// The codes that met each accepted reply that they can, of each kind of call.
-    fn covered(&self) -> usize {
-        self.codes.iter().filter(|(code, met)| **met == accepted(**code)).count()
+    /// What the codes met with any window, and what they met with a short one.
+    fn by_window(&self) -> [(&'static str, &Accepted); 2] {
+        [("accepted", &self.codes), ("accepted with a window at or below T as set", &self.short)]
     }
 
     /// The counts, for a reader to judge.
@@ -118,10 +139,12 @@ impl Met {
             let (messages, codes) = (grouped(counts.values().sum()), counts.len());
             lines.push(format!("of these, {name}: {messages}, of {codes} (T, B, N)"));
         }
-        let (lanes, windows) = (self.lanes.len(), self.windows.len());
-        lines.push(format!("different L: {lanes}; different W: {windows}"));
-        let (met, covered) = (self.codes.len(), self.covered());
-        lines.push(format!("(T, B, N) accepted: {met}; with every accepted reply: {covered}"));
+        let [l, w, t] = [&self.lanes, &self.windows, &self.delays].map(BTreeSet::len);
+        lines.push(format!("different L: {l}; different W: {w}; different T as set: {t}"));
+        for (name, codes) in self.by_window() {
+            let (met, covered) = (codes.len(), covered(codes));
+            lines.push(format!("(T, B, N) {name}: {met}; with every accepted reply: {covered}"));
+        }
         lines.join("\n")
     }
 
@@ -142,9 +165,11 @@ impl Met {
         }
         let count = every_code().len();
         due(count == CODES, format!("{count} accepted (T, B, N), and not {CODES}"));
-        let (met, covered) = (self.codes.len(), self.covered());
-        due(met == CODES, format!("{met} (T, B, N) covered, and not {CODES}"));
-        due(covered == CODES, format!("{covered} (T, B, N) met every accepted reply"));
+        for (name, codes) in self.by_window() {
+            let (met, covered) = (codes.len(), covered(codes));
+            due(met == CODES, format!("{met} (T, B, N) {name}, and not {CODES}"));
+            due(covered == CODES, format!("{covered} (T, B, N) {name} met every accepted reply"));
+        }
         for lanes in [1, 2, 3, 16, 64] {
             due(self.lanes.contains(&lanes), format!("L = {lanes} was never accepted"));
         }
@@ -157,8 +182,19 @@ impl Met {
     }
 }
 
+/// T is here the delay.
 fn code_of(settings: &Settings) -> Code {
-    (settings.delay, settings.burst, settings.scattered)
+    (settings.t() as u8, settings.burst, settings.scattered)
+}
+
+/// Whether the window is at or below T as set: it alone makes the delay then.
+fn is_short(settings: &Settings) -> bool {
+    settings.window <= settings.delay
+}
+
+/// The codes that met each accepted reply that they can, of each kind of call.
+fn covered(codes: &Accepted) -> usize {
+    codes.iter().filter(|(code, met)| **met == accepted(**code)).count()
 }
 
 /// How many codes have fades of more than N losses in which a frame is heard.
@@ -248,6 +284,41 @@ mod tests {
         let name = "of slots before an opening that left no row received";
         missing_until_met(name, codes, promise);
         assert_eq!(with_long_bursts(), 204);
+    }
+
+    /// A code with its window at or below T as set.
+    fn short(code: Settings) -> Settings {
+        Settings { delay: 255, ..code }
+    }
+
+    #[test]
+    fn a_recovery_with_a_short_window_is_missing_until_every_code_met_one() {
+        let name = "of a lost slot, with a window at or below T as set";
+        let promise = Promise { recovered: true, ..Promise::default() };
+        missing_until_met(name, every_code().into_iter().map(short), promise);
+        let mut met = Met::default();
+        every_code().iter().for_each(|code| met.add_promised(code, promise));
+        assert!(met.recovered_when_short.is_empty());
+    }
+
+    #[test]
+    fn a_short_window_is_missing_until_every_code_met_every_reply_with_one() {
+        let missing = |met: &Met| {
+            let texts = met.missing();
+            texts.iter().filter(|text| text.contains("accepted with a window")).count()
+        };
+        let add = |met: &mut Met, settings: Settings| {
+            let replies = accepted(code_of(&settings));
+            replies.iter().for_each(|&(kind, reply)| met.add(kind, reply, Some(settings)));
+        };
+        let mut met = Met::default();
+        every_code().into_iter().for_each(|code| add(&mut met, code));
+        assert_eq!((missing(&met), covered(&met.codes)), (2, CODES));
+        for code in every_code() {
+            assert_eq!(missing(&met), 2);
+            add(&mut met, short(code));
+        }
+        assert_eq!((missing(&met), covered(&met.short)), (0, CODES));
     }
 
     #[test]

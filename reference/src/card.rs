@@ -1,6 +1,7 @@
-//! The card's figures 9 to 12, as CARD.md describes them: in one lane, and then in three.
+//! The card's figures 9 to 12, as CARD.md describes them: in one lane, and then in three; and the
+//! example of a window shorter than the delay that was set.
 
-use crate::broadcast;
+use crate::broadcast::{self, Frames};
 use crate::frame;
 use crate::play::hex;
 use crate::receiver::{self, Reply};
@@ -19,6 +20,8 @@ pub fn lines() -> Vec<String> {
     let mut lines = figures(1, &IN_ONE_LANE.map(Vec::from));
     lines.push("in three lanes".to_string());
     lines.extend(figures(3, &IN_THREE_LANES.map(Vec::from)));
+    lines.push("in a window of three slots".to_string());
+    lines.extend(short_window());
     lines
 }
 
@@ -31,32 +34,58 @@ fn figures(lanes: u8, messages: &[Vec<u8>]) -> Vec<String> {
     damaged[2][frame::HEADER + frame::place(&settings, 2, 0)] = 2;
     let bodies: Vec<String> = frames.iter().map(|frame| hex(frame::body(frame))).collect();
     vec![
-        line(9, &bodies),
-        line(10, &replies(settings, &frames, &[0, 1])),
-        line(11, &replies(settings, &frames, &[0, 1, 2])),
-        line(12, &replies(settings, &damaged, &[])),
+        line("9", &bodies),
+        line("10", &replies(settings, &with_losses(&frames, &[0, 1]))),
+        line("11", &replies(settings, &with_losses(&frames, &[0, 1, 2]))),
+        line("12", &replies(settings, &with_losses(&damaged, &[]))),
     ]
 }
 
-/// The figure's number, and what each slot has.
-fn line(figure: u8, of_slots: &[String]) -> String {
-    format!("{figure} {}", of_slots.join(" "))
+/// The four lines of W = 3: what senders with T = 9 and T = 2 send, and what receivers with the
+/// same reply, each to the other sender's frame of a slot and then to its own sender's, or to the
+/// loss of it.
+fn short_window() -> Vec<String> {
+    let settings = [9, 2].map(|delay| Settings { delay, ..Settings::of_code(2, 2, 1) });
+    let frames = settings.map(|settings| broadcast::of(settings, &IN_ONE_LANE.map(Vec::from)));
+    let sent = |this: usize| {
+        let whole: Vec<String> = frames[this].iter().map(|frame| hex(frame)).collect();
+        line(&format!("sent {}", settings[this].delay), &whole)
+    };
+    let heard = |this: usize| {
+        let others = with_losses(&frames[1 - this], &[]);
+        let pairs = others.into_iter().zip(with_losses(&frames[this], &[0, 1]));
+        let reports: Vec<Report> = pairs.flat_map(|(other, own)| [other, own]).collect();
+        line(&format!("heard {}", settings[this].delay), &replies(settings[this], &reports))
+    };
+    vec![sent(0), sent(1), heard(0), heard(1)]
 }
 
-/// The replies of a receiver opened at slot 0 to these losses, and to the frames of the other
-/// slots.
-fn replies(settings: Settings, frames: &[Vec<u8>], lost: &[usize]) -> Vec<String> {
+/// What the line is, and its parts.
+fn line(name: &str, parts: &[String]) -> String {
+    format!("{name} {}", parts.join(" "))
+}
+
+/// A frame that is reported, or `None` for a loss.
+type Report<'a> = Option<&'a [u8]>;
+
+/// A report of each slot: a loss of these, and of the others the frame.
+fn with_losses<'a>(frames: &'a Frames, lost: &[usize]) -> Vec<Report<'a>> {
+    let report = |slot: usize| (!lost.contains(&slot)).then_some(&frames[slot][..]);
+    (0..frames.len()).map(report).collect()
+}
+
+/// The replies of a receiver opened at slot 0 to these reports.
+fn replies(settings: Settings, reports: &[Report]) -> Vec<String> {
     let mut rows = vec![0; receiver::rows_length(&settings)];
     let (mut state, opened) = receiver::open(settings, 0, &mut rows);
     assert_eq!(opened, Ok(()));
     let mut message = vec![0; frame::message_length(&settings)];
     let mut replies = Vec::new();
-    for (slot, frame) in frames.iter().enumerate() {
+    for report in reports {
         let reply;
-        (state, reply) = if lost.contains(&slot) {
-            receiver::report_loss(state, &mut rows, &mut message)
-        } else {
-            receiver::report_frame(state, &mut rows, frame, &mut message)
+        (state, reply) = match report {
+            Some(frame) => receiver::report_frame(state, &mut rows, frame, &mut message),
+            None => receiver::report_loss(state, &mut rows, &mut message),
         };
         replies.push(text(reply, &message));
     }
@@ -69,7 +98,7 @@ fn text(reply: Result<Reply, Refusal>, message: &[u8]) -> String {
         Ok(Reply::Lost) => "lost".to_string(),
         Ok(Reply::Clash) => "clash".to_string(),
         Ok(Reply::Whole) => format!("whole {}", hex(message)),
-        Err(_) => "refused".to_string(),
+        Err(refusal) => refusal.number().to_string(),
     }
 }
 
@@ -93,12 +122,12 @@ mod tests {
     }
 
     #[test]
-    fn a_report_of_another_slot_is_printed_as_refused() {
+    fn a_report_that_is_refused_is_printed_as_the_number_of_its_cause() {
         let settings = Settings::of_code(3, 2, 2);
         let mut frames = broadcast::of(settings, &IN_ONE_LANE.map(Vec::from));
         frames.insert(1, frames[3].clone());
-        let replies = replies(settings, &frames, &[]);
-        let before_and_after = ["none", "refused", "none", "none", "whole 0100", "whole 0001"];
+        let replies = replies(settings, &with_losses(&frames, &[]));
+        let before_and_after = ["none", "6", "none", "none", "whole 0100", "whole 0001"];
         assert_eq!(replies[..6], before_and_after);
     }
 }

@@ -152,12 +152,21 @@ fn of_code(draws: &mut Draws, code: Settings) -> Vec<Recording> {
     all
 }
 
-/// A code with a window and lanes: seldom many lanes where the code is large.
+/// A code alone with T set to its delay or to more: its window alone makes the delay.
+pub fn set_higher(draws: &mut Draws, code: Settings) -> Settings {
+    Settings { delay: code.delay + draws.below(256 - code.t()) as u8, ..code }
+}
+
+/// A code with a window, seldom a short one, and lanes: seldom many where the code is large.
 fn settings(draws: &mut Draws, code: Settings) -> Settings {
-    let window = code.delay + 1 + draws.below(255 - code.t()) as u8;
+    let timed = if draws.below(4) == 0 {
+        set_higher(draws, code)
+    } else {
+        Settings { window: code.delay + 1 + draws.below(255 - code.t()) as u8, ..code }
+    };
     let many = draws.below(2 * code.k() * code.k()) == 0;
     let lanes = draws.below(if many { 64 } else { 3 }) as u8 + 1;
-    Settings { window, lanes, ..code }
+    Settings { lanes, ..timed }
 }
 
 /// All frames, or those that bursts of up to B + 2 losses leave.
@@ -219,7 +228,7 @@ fn change_slot(draws: &mut Draws, frames: &mut Frames) {
     let before = at.checked_sub(1).map(|before| frame::slot(&frames[before]));
     let due = before.map_or(0, |slot| slot.wrapping_add(1));
     // Thousands of losses only where they are quickly played.
-    let far = if frame::settings(&frames[at]).delay <= 6 { 4095 } else { 95 };
+    let far = if frame::settings(&frames[at]).t() <= 6 { 4095 } else { 95 };
     let above = [1, 2, 5, 40, far, 4096, 4097, u32::MAX].map(|step| due.wrapping_add(step));
     let fixed = [0, 3_999_999_999, 4_000_000_000, 4_294_967_295];
     let slot = [&above[..], &fixed].concat()[draws.below(12)];
@@ -315,6 +324,21 @@ mod tests {
         kinds.sort_unstable();
         kinds.dedup();
         assert_eq!(kinds.len(), 12);
+    }
+
+    #[test]
+    fn drawn_settings_keep_the_delay_of_their_code() {
+        let mut draws = Draws::from(1);
+        let (mut short, mut highest) = (0, 0);
+        for code in every_code() {
+            let drawn = settings(&mut draws, code);
+            assert!(drawn.accepted() && drawn.window > code.delay, "{drawn:?}");
+            assert_eq!((drawn.t(), drawn.n()), (code.t(), code.n()));
+            short += usize::from(drawn.window <= drawn.delay);
+            highest = highest.max(drawn.delay);
+        }
+        // About one in four has a window no longer than the delay set.
+        assert!((60..124).contains(&short) && highest > 240, "{short} {highest}");
     }
 
     #[test]

@@ -152,7 +152,7 @@ mod tests {
 
     #[test]
     fn the_wider_rule_is_wider_and_a_frame_more_never_harms() {
-        for code in every_code().iter().filter(|code| code.delay <= 8) {
+        for code in every_code().iter().filter(|code| code.t() <= 8) {
             for stretch in every(9).filter(|stretch| fair_by_01(code, stretch)) {
                 assert!(fair(code, &stretch));
             }
@@ -177,6 +177,32 @@ mod tests {
             assert!(fades.iter().all(wider));
         }
     }
+
+    #[test]
+    fn bursts_in_a_window_shorter_than_the_delay_set() {
+        // W is 3 and T is set to 9: message t has slots t − 1 to t + 2, in stretches of three.
+        let short = Settings { delay: 9, ..Settings::of_code(2, 2, 1) };
+        let (apart, nearer) = (lost(16, [4, 5, 8, 9]), lost(16, [4, 5, 7, 8]));
+        assert!((0..14).all(|t| promised(&short, 0, &apart, t)));
+        // Slots 5 to 7 hold losses on both sides of a frame heard, and messages 5 and 6 have them.
+        let kept = (0..14).filter(|&t| promised(&short, 0, &nearer, t));
+        assert!(kept.eq((0..5).chain(7..14)));
+    }
+
+    #[test]
+    fn what_is_promised_goes_by_the_delay_and_not_by_t_as_set() {
+        let mut draws = Draws::from(20261130);
+        for code in every_code() {
+            let set = [code.delay + 1, 16, 255].map(|delay| Settings { delay, ..code });
+            for opened_at in openings(&code) {
+                let lost: Vec<bool> = (0..=code.t()).map(|_| draws.below(4) == 0).collect();
+                let t = (opened_at + draws.below(2) as u32).saturating_sub(code.t() as u32);
+                let expected = promised(&code, opened_at, &lost, t);
+                assert!(set.iter().all(|s| promised(s, opened_at, &lost, t) == expected));
+            }
+        }
+    }
+
     /// Opening slots from 0 to a few more than a receiver remembers.
     fn openings(code: &Settings) -> std::ops::Range<u32> {
         0..(code.k() + code.t()) as u32 + 3
@@ -186,7 +212,7 @@ mod tests {
     fn slots_before_the_opening_are_losses() {
         let mut draws = Draws::from(20261129);
         for code in every_code() {
-            let delay = u32::from(code.delay);
+            let delay = code.t() as u32;
             for opened_at in openings(&code) {
                 let slots = code.t() + 2;
                 let once_in = 2 + draws.below(8);
@@ -203,7 +229,7 @@ mod tests {
     #[test]
     fn what_is_promised_of_earlier_messages_if_nothing_more_is_lost() {
         for code in every_code() {
-            let (k, delay, burst) = (code.k() as u32, u32::from(code.delay), code.burst.into());
+            let (k, delay, burst) = (code.k() as u32, code.t() as u32, code.burst.into());
             for opened_at in openings(&code).chain([2_000_000_000, 3_999_999_990]) {
                 // The slots missed that message t sees are one run, of at most B.
                 let run = |t: u32| opened_at - (t + 1).saturating_sub(k);

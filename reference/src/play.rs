@@ -96,7 +96,7 @@ impl Player {
             Reply::Clash => "clash".to_string(),
             Reply::Whole => format!("whole {}", hex(&self.message)),
         };
-        let message = reported - u32::from(self.state.settings.delay);
+        let message = reported - self.state.settings.t() as u32;
         format!("{message} {says}\n")
     }
 }

@@ -30,6 +30,7 @@ pub fn examples() -> Vec<Example> {
         card(),
         played(&mut draws, &clean),
         vec![("fade", fade())],
+        short_windows(),
         stopped_before_the_first_line(&clean),
         stopped_at_a_frame(&clean),
         gaps(&mut draws),
@@ -108,11 +109,28 @@ fn fade() -> Vec<u8> {
     without(&frames, [6, 7, 9, 18, 20, 21]).concat()
 }
 
+/// Windows no longer than the delay that was set, with draws of their own. Of the bursts the first
+/// two are as near as W = 3 allows, and the last leaves just the frames that its messages need.
+fn short_windows() -> Vec<Example> {
+    let settings = Settings { delay: 9, lanes: 2, ..Settings::of_code(2, 2, 1) };
+    let short = broadcast::drawn(&mut Draws::from(20261124), settings, 30);
+    // It works alike, and yet is another setting.
+    let mut other = short.clone();
+    set_settings(&mut other[20], &Settings { delay: 2, ..settings });
+    let settings = Settings { window: middling().delay, ..middling() };
+    let middle = broadcast::drawn(&mut Draws::from(20261125), settings, 40);
+    vec![
+        ("short-window", without(&short, [4, 5, 8, 9, 26, 27]).concat()),
+        ("window-of-the-delay", without(&middle, 18..21).concat()),
+        ("stop-5-delay", other.concat()),
+    ]
+}
+
 /// Causes 2, 1 and 2 again, before any message line.
 fn stopped_before_the_first_line(clean: &Frames) -> Vec<Example> {
     let recording = clean.concat();
     let all_but_last = recording.len() - 1;
-    let refused = Settings { window: middling().delay, ..middling() };
+    let refused = Settings { window: middling().burst, ..middling() };
     let mut narrow = clean.clone();
     narrow.iter_mut().for_each(|frame| set_settings(frame, &refused));
     let narrow = narrow.concat();

@@ -7,13 +7,30 @@ use crate::sender;
 use crate::settings::Settings;
 use crate::state::{ReceiverState, Refusal, SenderState, END};
 
-/// Every (T, B, N), in order.
-const CODES: [(u8, u8, u8); 7] =
-    [(1, 1, 1), (3, 2, 2), (3, 3, 2), (2, 2, 1), (8, 8, 1), (15, 15, 15), (15, 1, 1)];
+/// Every W, T, B and N, in order: in the last three the window is no longer than the delay set.
+const SETTINGS: [[u8; 4]; 10] = [
+    [2, 1, 1, 1],
+    [4, 3, 2, 2],
+    [4, 3, 3, 2],
+    [3, 2, 2, 1],
+    [9, 8, 8, 1],
+    [16, 15, 15, 15],
+    [16, 15, 1, 1],
+    [3, 9, 2, 1],
+    [4, 4, 2, 2],
+    [12, 255, 8, 4],
+];
+
+/// The same with one lane.
+fn in_one_lane() -> [Settings; 10] {
+    SETTINGS.map(|[window, delay, burst, scattered]| {
+        Settings { window, delay, burst, scattered, lanes: 1 }
+    })
+}
 
 /// Every kind, with L and the start.
-fn kinds(code: &Settings) -> [(Kind, u8, u32); 10] {
-    let remembered = receiver::row_count(code) as u32;
+fn kinds(settings: &Settings) -> [(Kind, u8, u32); 10] {
+    let remembered = receiver::row_count(settings) as u32;
     [
         (Kind::Fresh, 1, 0),
         (Kind::Fresh, 64, 0),
@@ -50,10 +67,9 @@ enum Size {
 pub fn lines() -> Vec<String> {
     let mut draws = Draws::from(20261116);
     let mut lines = Vec::new();
-    for (delay, burst, scattered) in CODES {
-        let code = Settings::of_code(delay, burst, scattered);
-        for (kind, lanes, start) in kinds(&code) {
-            let settings = Settings { lanes, ..code };
+    for single in in_one_lane() {
+        for (kind, lanes, start) in kinds(&single) {
+            let settings = Settings { lanes, ..single };
             lines.push(title(&settings, kind, start));
             let mut scenario = Scenario::drawn(&mut draws, &mut lines, settings);
             scenario.open_both(if kind == Kind::Late { start } else { 0 });
@@ -76,7 +92,7 @@ fn title(s: &Settings, kind: Kind, start: u32) -> String {
         Kind::Lent => "lent",
         Kind::Late => "late",
     };
-    format!("scenario {} {} {} {} {kind} {start}", s.delay, s.burst, s.scattered, s.lanes)
+    format!("scenario {} {kind} {start}", text_of_settings(s))
 }
 
 /// The sum, over the indices from 0, of (index + 1) × byte, modulo 65521.
@@ -123,13 +139,14 @@ fn word_of_reply(reply: Reply) -> &'static str {
 fn broken(settings: Settings, way: usize) -> Settings {
     let s = settings;
     match way {
-        0 => Settings { window: s.delay, ..s },
-        1 => Settings { burst: s.delay + 1, ..s },
+        // The delay is then B − 1.
+        0 => Settings { window: s.burst, ..s },
+        1 => Settings { burst: s.t() as u8 + 1, ..s },
         2 => Settings { scattered: 0, ..s },
         3 => Settings { scattered: s.burst + 1, ..s },
         4 => Settings { lanes: 0, ..s },
         5 => Settings { lanes: 65, ..s },
-        // The narrowest window of a code where n is 17: W is 16 or 10.
+        // A code where n is 17, with W one more than its delay: 16 or 10.
         6 => Settings { lanes: s.lanes, ..Settings::of_code(15, 2, 1) },
         _ => Settings { lanes: s.lanes, ..Settings::of_code(9, 8, 1) },
     }
@@ -453,18 +470,20 @@ mod tests {
 
     #[test]
     fn settings_are_broken_as_each_way_says() {
-        let settings = Settings { window: 9, lanes: 3, ..Settings::of_code(5, 3, 2) };
-        let [w, b, n, more_n, l, more_l, n_is_17, again] = every_way(settings);
-        assert_eq!((w, b), ([5, 5, 3, 2, 3], [9, 5, 6, 2, 3]));
-        assert_eq!((n, more_n), ([9, 5, 3, 0, 3], [9, 5, 3, 4, 3]));
-        assert_eq!((l, more_l), ([9, 5, 3, 2, 0], [9, 5, 3, 2, 65]));
-        assert_eq!((n_is_17, again), ([16, 15, 2, 1, 3], [10, 9, 8, 1, 3]));
+        // The delay is 5: set so, and made so by a window of 6.
+        for (w, t) in [(9, 5), (6, 255)] {
+            let settings = Settings { window: w, delay: t, lanes: 3, ..Settings::of_code(5, 3, 2) };
+            let [less_w, b, n, more_n, l, more_l, n_is_17, again] = every_way(settings);
+            assert_eq!((less_w, b), ([3, t, 3, 2, 3], [w, t, 6, 2, 3]));
+            assert_eq!((n, more_n), ([w, t, 3, 0, 3], [w, t, 3, 4, 3]));
+            assert_eq!((l, more_l), ([w, t, 3, 2, 0], [w, t, 3, 2, 65]));
+            assert_eq!((n_is_17, again), ([16, 15, 2, 1, 3], [10, 9, 8, 1, 3]));
+        }
     }
 
     #[test]
     fn broken_settings_are_not_accepted() {
-        for (delay, burst, scattered) in CODES {
-            let settings = Settings::of_code(delay, burst, scattered);
+        for settings in in_one_lane() {
             assert!(settings.accepted());
             assert!((0..WAYS).all(|way| !broken(settings, way).accepted()));
             // In the last two ways it is n alone that is not accepted.

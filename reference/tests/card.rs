@@ -1,4 +1,4 @@
-//! The lines of the card: figures 9 to 12, in one lane and in three.
+//! The lines of the card: figures 9 to 12, in one lane and in three, and the short window.
 
 #![forbid(unsafe_code)]
 
@@ -12,11 +12,11 @@ fn behind(figure: u8, line: &str) -> Vec<String> {
 }
 
 #[test]
-fn there_are_four_lines_in_one_lane_and_four_in_three() {
+fn there_are_four_lines_in_one_lane_and_four_in_three_and_four_of_the_short_window() {
     let lines = card::lines();
-    assert_eq!(lines.len(), 9);
-    assert_eq!(lines[4], "in three lanes");
-    for half in [&lines[..4], &lines[5..]] {
+    assert_eq!(lines.len(), 14);
+    assert_eq!((&lines[4][..], &lines[9][..]), ("in three lanes", "in a window of three slots"));
+    for half in [&lines[..4], &lines[5..9]] {
         for (figure, line) in (9..).zip(half) {
             let messages = line.matches("whole ").count();
             assert_eq!(behind(figure, line).len(), 6 + messages, "{line}");
@@ -64,5 +64,23 @@ fn figures_10_to_12_in_three_lanes() {
         "11 none none none lost lost whole 000000000001",
         "12 none none none clash clash whole 000000000001",
     ];
-    assert_eq!(card::lines()[6..], expected);
+    assert_eq!(card::lines()[6..9], expected);
+}
+
+#[test]
+fn frames_of_the_short_window_differ_in_t_alone() {
+    // The codeword that starts at slot 0 has the first symbols 1 1, and so, by figure 8, the parity
+    // 16 16; it is the only one that is not zeros.
+    let bodies = ["01000000", "00010000", "00001000", "00000010", "00000000", "00000000"];
+    for (t, line) in [9, 2].iter().zip(&card::lines()[10..12]) {
+        let frame = |slot| format!(" 544f420001030{t}020101{slot:08x}{}", bodies[slot]);
+        assert_eq!(*line, format!("sent {t}{}", (0..6).map(frame).collect::<String>()));
+    }
+}
+
+#[test]
+fn a_receiver_of_the_short_window_hears_its_own_sender_only() {
+    let own = ["none", "none", "whole 0100", "whole 0001", "whole 0000", "whole 0000"];
+    let replies: String = own.iter().map(|reply| format!(" 5 {reply}")).collect();
+    assert_eq!(card::lines()[12..], [format!("heard 9{replies}"), format!("heard 2{replies}")]);
 }

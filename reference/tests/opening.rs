@@ -4,6 +4,7 @@
 #![forbid(unsafe_code)]
 
 use reference::broadcast::{self, Frames};
+use reference::drawn::set_higher;
 use reference::frame::{self, message_length};
 use reference::patterns::Draws;
 use reference::receiver::{self, row_count, Reply};
@@ -27,10 +28,11 @@ fn opened(settings: Settings, slot: u32) -> (ReceiverState, Vec<u8>) {
     (state, rows)
 }
 
-/// Every code alone, and with three lanes and a wider window.
+/// Every code alone, with T set to 255, and with three lanes and a wider window.
 fn every_settings() -> Vec<Settings> {
+    let highest = |code: &Settings| Settings { delay: 255, ..*code };
     let wider = |code: &Settings| Settings { window: code.delay + 9, lanes: 3, ..*code };
-    every_code().iter().flat_map(|code| [*code, wider(code)]).collect()
+    every_code().iter().flat_map(|code| [*code, highest(code), wider(code)]).collect()
 }
 
 #[test]
@@ -59,12 +61,12 @@ fn an_opening_at_0_makes_every_row_received_zeros() {
 
 #[test]
 fn a_receiver_opened_late_is_as_one_that_every_earlier_slot_was_lost_to() {
-    for code in every_code() {
-        let mut buffer = vec![FILL; message_length(&code)];
-        let (mut state, mut rows) = opened(code, 0);
-        for slot in 0..row_count(&code) as u32 + 3 {
+    for settings in every_settings() {
+        let mut buffer = vec![FILL; message_length(&settings)];
+        let (mut state, mut rows) = opened(settings, 0);
+        for slot in 0..row_count(&settings) as u32 + 3 {
             let late = ReceiverState { opened_at: slot, ..state };
-            assert_eq!(opened(code, slot), (late, rows.clone()));
+            assert_eq!(opened(settings, slot), (late, rows.clone()));
             (state, _) = receiver::report_loss(state, &mut rows, &mut buffer);
         }
     }
@@ -107,8 +109,11 @@ fn the_first_report_tells_of_the_message_t_slots_before_the_opening() {
     let mut codes_with_whole = 0;
     for code in every_code() {
         let mut whole = 0;
-        let (delay, remembered) = (u32::from(code.delay), row_count(&code) as u32);
-        for slot in [delay - 1, delay, remembered, 2_000_000_000, 3_999_999_999] {
+        let (delay, remembered) = (code.t() as u32, row_count(&code) as u32);
+        let slots = [delay - 1, delay, remembered, 2_000_000_000, 3_999_999_999];
+        for (at, slot) in slots.into_iter().enumerate() {
+            // At every other slot T is set higher than the window allows.
+            let code = if at % 2 == 0 { code } else { set_higher(&mut draws, code) };
             let (messages, frames) = sent_until(&mut draws, code, slot);
             let (state, mut rows) = opened(code, slot);
             let (heard, mut buffer) = (&frames[frames.len() - 1], vec![FILL; code.k()]);
@@ -121,7 +126,7 @@ fn the_first_report_tells_of_the_message_t_slots_before_the_opening() {
             }
             // The frame heard is the last of the list, and the message told of is T before it.
             let told = &messages[messages.len() - 1 - code.t()];
-            let repeats = code.delay == code.burst && code.scattered == 1;
+            let repeats = code.t() == code.burst.into() && code.scattered == 1;
             let one_frame_tells = code.k() == 1 || repeats;
             if one_frame_tells {
                 assert_eq!((reply, &buffer), (Ok(Reply::Whole), told), "{code:?} {slot}");

@@ -2,7 +2,7 @@
 
 #![forbid(unsafe_code)]
 
-use reference::broadcast;
+use reference::broadcast::{self, without};
 use reference::frame;
 use reference::play::transcript;
 use reference::settings::Settings;
@@ -111,6 +111,33 @@ fn settings_of_the_first_frame_that_are_not_accepted_stop_with_1() {
     // Before the mark is looked at, and before the number of frames is.
     bytes[0] = 0;
     assert_eq!(play(&bytes[..53]), "stop 1\n");
+}
+
+#[test]
+fn a_window_may_be_shorter_than_the_delay_set() {
+    // W = 3 makes a delay of 2, whatever higher T is set, and the messages are numbered by it.
+    let sent = [[1, 0], [0, 1], [5, 6], [7, 8], [0, 0]].map(Vec::from);
+    let (first_two, third) = ("0 whole 0100\n1 whole 0001\n", "2 whole 0506\n");
+    for delay in [2, 3, 9, 255] {
+        let settings = Settings { window: 3, ..Settings::of_code(delay, 2, 1) };
+        let mut frames = broadcast::of(settings, &sent);
+        assert_eq!(play(&frames[..2].concat()), "");
+        assert_eq!(play(&frames.concat()), format!("{first_two}{third}"));
+        assert_eq!(play(&without(&frames, [1, 2]).concat()), format!("{first_two}{third}"));
+        // Another T in the last frame makes the same delay, and is cause 5 all the same.
+        frames[4][6] = if delay == 2 { 9 } else { 2 };
+        assert_eq!(play(&frames.concat()), format!("{first_two}stop 5\n"));
+    }
+}
+
+#[test]
+fn a_window_too_short_for_b_stops_with_1() {
+    let mut bytes = recording([2, 3, 4]);
+    // W = T makes a delay of 2, which is B, and frames of 17 bytes; W = B one of 1.
+    bytes[5] = 3;
+    assert_eq!(play(&bytes), "stop 2\n");
+    bytes[5] = 2;
+    assert_eq!(play(&bytes), "stop 1\n");
 }
 
 #[test]

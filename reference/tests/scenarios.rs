@@ -25,7 +25,18 @@ fn every_scenario() -> Vec<(&'static str, &'static [String])> {
 
 #[test]
 fn the_first_line_is_a_title() {
-    assert_eq!(lines()[0], "scenario 1 1 1 1 fresh 0");
+    assert_eq!(lines()[0], "scenario 2 1 1 1 1 fresh 0");
+}
+
+#[test]
+fn each_ten_scenarios_have_the_same_w_t_b_and_n() {
+    let of_title = |(title, _): (&'static str, _)| parts(title)[1..5].join(" ");
+    let every: Vec<String> = every_scenario().into_iter().map(of_title).collect();
+    let settings = [
+        "2 1 1 1", "4 3 2 2", "4 3 3 2", "3 2 2 1", "9 8 8 1", "16 15 15 15", "16 15 1 1",
+        "3 9 2 1", "4 4 2 2", "12 255 8 4",
+    ];
+    assert!(every.chunks(10).eq(settings.map(|of_ten| [of_ten; 10])));
 }
 
 /// The lines of the sender's openings, and of the receiver's.
@@ -38,7 +49,7 @@ fn a_scenario_begins_with_the_openings_of_each_end() {
     // Eight broken ways, two lengths, both at once; three at no slot; and the accepted one.
     let both = ["1", "1", "1", "1", "1", "1", "1", "1", "2", "2", "1"];
     let outcomes = [[&both[..], &["ok"]].concat(), [&both[..], &["7", "2", "1", "ok"]].concat()];
-    assert_eq!(every_scenario().len(), 70);
+    assert_eq!(every_scenario().len(), 100);
     for (title, behind) in every_scenario() {
         for ((end, outcomes), openings) in
             ["open-sender", "open-receiver"].iter().zip(&outcomes).zip(openings(behind))
@@ -72,7 +83,13 @@ fn parts(line: &str) -> Vec<&str> {
 
 /// The kind and the start that a title gives.
 fn kind_and_start(title: &str) -> (&str, u32) {
-    (parts(title)[5], parts(title)[6].parse().expect("a start"))
+    (parts(title)[6], parts(title)[7].parse().expect("a start"))
+}
+
+/// The delay that the W and T of a title make.
+fn delay(title: &str) -> u32 {
+    let number = |at: usize| parts(title)[at].parse::<u32>().expect("a number");
+    number(2).min(number(1) - 1)
 }
 
 fn is_report(line: &&String) -> bool {
@@ -101,7 +118,7 @@ fn a_late_receiver_starts_at_its_slot_behind_the_sends_before_it() {
     let mut told = 0;
     for (title, behind) in late {
         let start = kind_and_start(title).1;
-        let [slot, delay] = [start.to_string(), parts(title)[1].to_string()];
+        let slot = start.to_string();
         assert_eq!(parts(&behind[26])[7..9], [&slot, &slot], "{title}");
         // The sends before it: the last of them makes the start due.
         let before = start.min(16) as usize;
@@ -109,11 +126,25 @@ fn a_late_receiver_starts_at_its_slot_behind_the_sends_before_it() {
         assert_eq!(parts(&behind[26 + before])[7], slot, "{title}");
         let mut reports = behind.iter().filter(is_report).map(|line| parts(line));
         let first = reports.find(|parts| parts[1].parse::<u8>().is_err()).expect("one accepted");
-        assert_eq!(first[1] == "none", start < delay.parse().expect("T"), "{title}");
+        assert_eq!(first[1] == "none", start < delay(title), "{title}");
         told += usize::from(first[1] != "none");
     }
-    // All but one of each of the six codes where T is above 1.
-    assert_eq!(told, 42 - 6);
+    // All but one of each of the nine settings whose delay is above 1.
+    assert_eq!(told, 60 - 9);
+}
+
+#[test]
+fn short_windows_meet_every_reply_and_states_have_t_as_set() {
+    for settings in ["3 9 2 1", "4 4 2 2", "12 255 8 4"] {
+        for call in ["frame none", "frame clash", "frame whole", "frame 5", "loss lost", "loss 3"] {
+            let start = format!("{call} {settings} ");
+            assert!(lines().iter().any(|line| line.starts_with(&start)), "{start}");
+        }
+        // Where the delay is B, and N is 1, a frame heard repeats all that is due with it.
+        let lost = format!("frame lost {settings} ");
+        let met = lines().iter().any(|line| line.starts_with(&lost));
+        assert_eq!(met, settings != "3 9 2 1", "{lost}");
+    }
 }
 
 #[test]

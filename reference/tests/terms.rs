@@ -1,10 +1,11 @@
 //! Demand 3 under the wider rule of document 02, §1: every loss pattern of ten slots for some
 //! small codes, and for every code drawn patterns with frames heard inside a fade. The same for
-//! receivers opened at any slot, as document 02, §3 has it.
+//! receivers opened at any slot (document 02, §3), and for windows shorter than the T set (§5).
 
 #![forbid(unsafe_code)]
 
 use reference::broadcast::{self, Frames};
+use reference::drawn::set_higher;
 use reference::fair::{fades, fair, promised, promised_in_a_fade};
 use reference::frame::message_length;
 use reference::patterns::Draws;
@@ -20,6 +21,11 @@ struct Broadcast {
     first: u32,
     messages: Vec<Vec<u8>>,
     frames: Frames,
+}
+
+/// The code alone, or as often with a T that may be higher than its window allows.
+fn drawn_t(draws: &mut Draws, code: Settings) -> Settings {
+    if draws.below(2) == 0 { code } else { set_higher(draws, code) }
 }
 
 /// How many messages are promised, how many of them by the wider rule only, and how many are of
@@ -79,7 +85,8 @@ impl Broadcast {
             };
             // The sender's own frames never clash.
             assert_ne!(reply, Ok(Reply::Clash));
-            let due = slot.checked_sub(code.delay.into());
+            let due = slot.checked_sub(code.t() as u32);
+            assert_eq!(reply == Ok(Reply::NoneYet), due.is_none());
             if let Some(t) = due.filter(|&t| promised(&code, opened_at, lost, t)) {
                 let whole = (reply, &buffer[..]) == (Ok(Reply::Whole), self.sent(t).0);
                 assert!(whole, "{code:?} {opened_at} {lost:?} {t}");
@@ -105,6 +112,10 @@ fn every_pattern_of_ten_slots() {
         (Settings::of_code(3, 3, 1), true),
         (Settings::of_code(4, 4, 2), true),
         (Settings { window: 7, ..Settings::of_code(5, 4, 1) }, true),
+        // The window makes the delay: 2, and 3 of T = 4 and of T = 255.
+        (Settings { window: 3, ..Settings::of_code(9, 2, 1) }, false),
+        (Settings { window: 4, ..Settings::of_code(4, 2, 2) }, false),
+        (Settings { window: 4, ..Settings::of_code(255, 3, 1) }, true),
     ] {
         let sent = Broadcast::drawn(&mut draws, code, 0, SLOTS);
         let mut met = Met::default();
@@ -151,6 +162,7 @@ fn frames_heard_inside_fades_of_every_code() {
             continue;
         }
         for drawn in [two_fades, fade_and_losses] {
+            let code = drawn_t(&mut draws, code);
             let lost = drawn(&mut draws, &code, &fades);
             let met = Broadcast::drawn(&mut draws, code, 0, lost.len()).promised(0, &lost);
             let all = met.promised == lost.len() - code.t();
@@ -170,6 +182,8 @@ fn every_pattern_behind_every_opening_of_small_codes() {
         Settings::of_code(3, 2, 2),
         Settings::of_code(3, 3, 1),
         Settings::of_code(4, 2, 1),
+        Settings { window: 3, ..Settings::of_code(9, 2, 1) },
+        Settings { window: 4, ..Settings::of_code(255, 2, 2) },
     ] {
         let mut met = Met::default();
         for opened_at in 1..=row_count(&code) as u32 + 1 {
@@ -233,6 +247,7 @@ fn messages_from_before_the_opening_of_every_code() {
         // there before the last such message is due, and with no row that was left received.
         let mut seen = [false; 3];
         for opened_at in openings(&mut draws, &code) {
+            let code = drawn_t(&mut draws, code);
             let slots = (code.t() + 2).min((END - opened_at) as usize);
             let sent = Broadcast::around(&mut draws, code, opened_at, slots);
             for lost in behind_opening(&mut draws, &code, opened_at, slots) {
@@ -257,6 +272,7 @@ fn slots_before_the_opening_do_not_count_as_heard() {
     let mut draws = Draws::from(20261128);
     let mut codes = 0;
     for code in every_code() {
+        let code = drawn_t(&mut draws, code);
         let (opened_at, remembered) = (2_000_000_000, row_count(&code));
         let sent = Broadcast::around(&mut draws, code, opened_at, 1);
         let mut rows = vec![9; receiver::rows_length(&code)];
@@ -264,7 +280,7 @@ fn slots_before_the_opening_do_not_count_as_heard() {
         let mut buffer = vec![9; message_length(&code)];
         let heard = sent.sent(opened_at).1;
         let (_, reply) = receiver::report_frame(state, &mut rows, heard, &mut buffer);
-        let t = opened_at - u32::from(code.delay);
+        let t = opened_at - code.t() as u32;
         // If they did, the message would be promised as it is to a receiver that heard them.
         let all_heard = vec![false; remembered + 1];
         assert!(promised(&code, opened_at - remembered as u32, &all_heard, t));
@@ -275,4 +291,21 @@ fn slots_before_the_opening_do_not_count_as_heard() {
     }
     // All but those of which one frame tells a message T slots old.
     assert_eq!(codes, 372 - 22);
+}
+
+#[test]
+fn fair_losses_of_every_code_with_t_set_to_255() {
+    let mut draws = Draws::from(20261131);
+    for code in every_code() {
+        let (set, slots) = (Settings { delay: 255, ..code }, code.t() + 4);
+        let lost = fair_losses(&mut draws, &set, slots);
+        let met = Broadcast::drawn(&mut draws, set, 0, slots).promised(0, &lost);
+        assert_eq!((met.promised, met.before), (4, 0), "{set:?} {lost:?}");
+        // Behind a later opening: the last message before it has so many missed slots in a run.
+        let late = 1 + draws.below(row_count(&code) + 1) as u32;
+        let missed = code.k().min(late as usize);
+        let lost = sparing(&mut draws, &set, late, slots);
+        let met = Broadcast::around(&mut draws, set, late, slots).promised(late, &lost);
+        assert_eq!(met.before > 0, missed <= code.burst.into(), "{set:?} {late} {lost:?}");
+    }
 }

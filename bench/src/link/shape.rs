@@ -2,7 +2,7 @@
 
 use super::reply;
 
-/// W, T, B, N, L.
+/// W, T, B, N, L, as they are set.
 pub type Settings = [u8; 5];
 /// The settings, the slot due (high byte first) and the slot opened at, which is 0.
 pub type State = [u8; STATE_LEN];
@@ -17,6 +17,7 @@ pub const HEADER: usize = 14;
 /// The sizes of accepted settings.
 #[derive(Clone, Copy)]
 pub struct Shape {
+    /// The smaller of T and W − 1 (document 02 §5).
     pub delay: usize,
     pub scattered: usize,
     pub lanes: usize,
@@ -34,12 +35,11 @@ impl Shape {
     /// The sizes, or cause 1.
     #[inline]
     pub fn of(&[w, t, b, s, l]: &Settings) -> Result<Shape, u32> {
-        let [window, delay, parities, scattered, lanes] = [w, t, b, s, l].map(usize::from);
+        let [delay, parities, scattered, lanes] = [t.min(w.saturating_sub(1)), b, s, l].map(usize::from);
         let accepted = 1 <= scattered
             && scattered <= parities
             && parities <= delay
             && delay + 1 + parities - scattered <= 16
-            && delay < window
             && (1..=64).contains(&lanes);
         if !accepted {
             return Err(reply::SETTINGS);

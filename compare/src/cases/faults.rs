@@ -2,17 +2,19 @@
 //! (Now and then it is accepted all the same: both sides must then agree on that.)
 
 use reference::frame::HEADER;
+use reference::settings::Settings;
 use reference::state::END;
 
 use super::bounds;
 use crate::call::{Call, Kind};
 use crate::draw::Draws;
-use crate::model::{DUE, RECEIVER, SENDER, STATE};
+use crate::model::{bytes_of, settings_of, DUE, RECEIVER, SENDER, STATE};
 
 type Fault = fn(&mut Draws, &mut Call);
 
 /// Those of calls that start from a state.
-const OF_STATE: [Fault; 7] = [length, mark, other_kind, state_byte, settings, window, due];
+const OF_STATE: [Fault; 8] =
+    [length, mark, other_kind, state_byte, settings, window, same_delay, due];
 const OF_FRAME: [Fault; 4] = [frame_mark, frame_settings, frame_slot, frame_header];
 
 /// The call with one to three faults.
@@ -82,16 +84,40 @@ fn state_byte(draws: &mut Draws, call: &mut Call) {
 fn settings(draws: &mut Draws, call: &mut Call) {
     let others = bounds::any(draws);
     let place = draws.below(5);
-    if let Some(settings) = call.thing("state").get_mut(4..9) {
+    if let Some(settings) = settings_of_state(call) {
         settings[place] = others[place];
     }
 }
 
-/// The state's window is T or less: the settings are not accepted, and every length is still theirs.
+/// The state's window is at most the delay, and so makes it shorter: B is above it then, or it goes
+/// with other lengths.
 fn window(draws: &mut Draws, call: &mut Call) {
-    if let Some([window, delay]) = call.thing("state").get_mut(4..6) {
-        *window = draws.below(usize::from(*delay) + 1) as u8;
+    if let Some(settings) = settings_of_state(call) {
+        let (delay, burst) = (delay(settings), settings[2]);
+        let any = draws.below(usize::from(delay) + 1) as u8;
+        let window = draws.one_of(&[any, any, burst, burst.saturating_add(1)]);
+        settings[0] = window.min(delay);
     }
+}
+
+/// The state's W and T become others that make the same delay: every length is still theirs, and
+/// only a frame is refused, which has the old ones.
+fn same_delay(draws: &mut Draws, call: &mut Call) {
+    if let Some(settings) = settings_of_state(call) {
+        let [_, _, burst, scattered, lanes] = *settings;
+        let code = Settings::of_code(delay(settings), burst, scattered);
+        *settings = bytes_of(&super::settings(draws, &code, lanes));
+    }
+}
+
+/// The settings in the state, if it is long enough.
+fn settings_of_state(call: &mut Call) -> Option<&mut [u8; 5]> {
+    call.thing("state").get_mut(4..9)?.try_into().ok()
+}
+
+/// The smaller of T and W − 1, which is below 255.
+fn delay(settings: &[u8; 5]) -> u8 {
+    settings_of(*settings).t() as u8
 }
 
 /// The state's slot due is above the end.
@@ -136,5 +162,35 @@ fn frame_slot(draws: &mut Draws, call: &mut Call) {
 fn frame_header(draws: &mut Draws, call: &mut Call) {
     for _ in 0..2 {
         change(draws, call.thing("frame"), 0, HEADER);
+    }
+}
+
+#[cfg(test)]
+mod tests {
+    use reference::settings::every_code;
+    use reference::state::ReceiverState;
+
+    use super::*;
+    use crate::model::{by_reference, lengths, receiver_bytes};
+
+    /// The reply to the report of a loss with this fault.
+    fn reply(draws: &mut Draws, settings: Settings, fault: Fault) -> u32 {
+        let state = receiver_bytes(&ReceiverState { settings, opened_at: 0, due: 99 });
+        let [message, .., rows] = lengths(&settings);
+        let mut call = Call::lost(state, vec![0; rows], vec![0; message]);
+        fault(draws, &mut call);
+        by_reference(call.kind, &mut call.things)
+    }
+
+    #[test]
+    fn a_shorter_window_is_refused_and_the_same_delay_is_not() {
+        let mut draws = Draws::of_case(1, 4);
+        let mut causes = [0; 3];
+        for code in every_code() {
+            let settings = crate::cases::settings(&mut draws, &code, 1);
+            causes[reply(&mut draws, settings, window) as usize] += 1;
+            assert_eq!(reply(&mut draws, settings, same_delay), 18);
+        }
+        assert!(causes[0] == 0 && causes[1] > 99 && causes[2] > 99, "{causes:?}");
     }
 }

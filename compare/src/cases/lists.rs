@@ -7,14 +7,14 @@ use reference::receiver::row_count;
 use reference::settings::{every_code, Settings};
 use reference::state::END;
 
+use super::ends::{End, Ends};
 use super::faults::faulty;
 use super::losses::{losses, one_fade, sparing, sparing_opening};
 use super::opening_slots;
 use super::rows::lanes;
-use crate::call::{Call, Kind};
+use crate::call::Call;
 use crate::comparison::{Comparison, Difference};
 use crate::draw::Draws;
-use crate::model::{bytes_of, lengths, DUE, STATE};
 use crate::report::Promise;
 
 /// Lists for each code with any losses, and of them those with a receiver opened at slot 0. One
@@ -35,8 +35,8 @@ pub fn run(comparison: &mut Comparison) -> Result<(), Difference> {
     Ok(())
 }
 
-/// Losses of any kind, and sometimes damage; narrow is the narrowest window and one lane. The
-/// receiver is opened at slot 0, or at some slot.
+/// Losses of any kind, and sometimes damage; narrow is the narrowest window and one lane, and T may
+/// be set higher there. The receiver is opened at slot 0, or at some slot.
 fn any_losses(
     comparison: &mut Comparison,
     code: Settings,
@@ -44,9 +44,13 @@ fn any_losses(
     from_0: bool,
 ) -> Result<(), Difference> {
     let mut draws = comparison.case("lists of calls");
-    let window = if narrow { code.delay + 1 } else { super::window(&mut draws, &code) };
-    let lanes = if narrow { 1 } else { lanes(&mut draws, &code) };
-    let settings = Settings { window, lanes, ..code };
+    let settings = if narrow {
+        let short = super::short_window(&mut draws, &code);
+        draws.one_of(&[code, short])
+    } else {
+        let lanes = lanes(&mut draws, &code);
+        super::settings(&mut draws, &code, lanes)
+    };
     let openings = opening_slots(&mut draws, &settings);
     let opened_at = if from_0 { 0 } else { draws.one_of(&openings) };
     let more = if from_0 { 2 * settings.t() + 12 } else { settings.t() + 4 };
@@ -60,8 +64,8 @@ fn any_losses(
 /// One fade inside which frames are heard, and no damage: some message is promised surely.
 fn a_fade(comparison: &mut Comparison, code: Settings) -> Result<(), Difference> {
     let mut draws = comparison.case("lists of calls");
-    let (window, lanes) = (super::window(&mut draws, &code), draws.one_of(&[1, 1, 2]));
-    let settings = Settings { window, lanes, ..code };
+    let lanes = draws.one_of(&[1, 1, 2]);
+    let settings = super::settings(&mut draws, &code, lanes);
     let lost = one_fade(&mut draws, &settings);
     List::opened(comparison, &mut draws, settings, 0)?.play(&lost, false)
 }
@@ -70,37 +74,22 @@ fn a_fade(comparison: &mut Comparison, code: Settings) -> Result<(), Difference>
 /// promised surely.
 fn an_earlier_message(comparison: &mut Comparison, code: Settings) -> Result<(), Difference> {
     let mut draws = comparison.case("lists of calls");
-    let (window, lanes) = (super::window(&mut draws, &code), draws.one_of(&[1, 1, 2]));
-    let settings = Settings { window, lanes, ..code };
+    let lanes = draws.one_of(&[1, 1, 2]);
+    let settings = super::settings(&mut draws, &code, lanes);
     let opened_at = sparing_opening(&mut draws, &settings);
     let lost = sparing(&mut draws, &settings, opened_at);
     List::opened(comparison, &mut draws, settings, opened_at)?.play(&lost, false)
 }
 
-/// The state and the rows of one end.
-struct End {
-    state: Vec<u8>,
-    rows: Vec<u8>,
-}
-
 struct List<'a> {
     comparison: &'a mut Comparison,
     draws: &'a mut Draws,
-    settings: Settings,
-    sender: End,
-    receiver: End,
+    ends: Ends,
     /// The slot at which the receiver was opened.
     opened_at: u32,
-    /// The messages from this slot on; those before it are zeros.
-    first: u32,
+    /// The messages from the first slot on that is sent.
     messages: Vec<Vec<u8>>,
     damaged: bool,
-}
-
-/// Makes an opening: the state and the rows that it leaves.
-fn open(comparison: &mut Comparison, mut call: Call) -> Result<End, Difference> {
-    comparison.call(&mut call)?;
-    Ok(End { state: call.take("state"), rows: call.take("rows") })
 }
 
 impl<'a> List<'a> {
@@ -110,37 +99,14 @@ impl<'a> List<'a> {
         settings: Settings,
         opened_at: u32,
     ) -> Result<List<'a>, Difference> {
-        let ([.., sender, receiver], bytes) = (lengths(&settings), bytes_of(&settings));
-        let (state, rows) = (draws.bytes(STATE), draws.bytes(sender));
-        let mut sender = open(comparison, Call::open(Kind::OpenSender, bytes, state, rows))?;
-        // With the opening's rows it is as if zeros had been sent in every slot before this one.
-        let first = opened_at - opened_at.min(row_count(&settings) as u32);
-        sender.state[DUE].copy_from_slice(&first.to_be_bytes());
-        let (state, rows) = (draws.bytes(STATE), draws.bytes(receiver));
-        let without_slot = opened_at == 0 && draws.once_in(2);
-        let opening = match without_slot {
-            true => Call::open(Kind::OpenReceiver, bytes, state, rows),
-            false => Call::open_at(bytes, opened_at, state, rows),
-        };
-        let receiver = open(comparison, opening)?;
-        let (messages, damaged) = (Vec::new(), false);
-        Ok(List {
-            comparison,
-            draws,
-            settings,
-            sender,
-            receiver,
-            opened_at,
-            first,
-            messages,
-            damaged,
-        })
+        let ends = Ends::opened(comparison, draws, settings, opened_at)?;
+        Ok(List { comparison, draws, ends, opened_at, messages: Vec::new(), damaged: false })
     }
 
     /// A send for each slot that the receiver misses; then a send and a report for each, lost or
     /// heard as the list says.
     fn play(&mut self, lost: &[bool], damage: bool) -> Result<(), Difference> {
-        for _ in self.first..self.opened_at {
+        for _ in self.ends.first..self.opened_at {
             self.send()?;
         }
         for (slot, &is_lost) in (self.opened_at..).zip(lost) {
@@ -150,7 +116,7 @@ impl<'a> List<'a> {
                 self.draws.change(&mut frame[place]);
                 self.damaged |= !is_lost;
             }
-            let (reply, message) = self.report(frame, is_lost)?;
+            let (reply, message) = self.report((!is_lost).then_some(frame))?;
             self.check_promise(lost, slot, reply, &message)?;
         }
         Ok(())
@@ -158,27 +124,19 @@ impl<'a> List<'a> {
 
     /// The send of the slot due, sometimes behind a refused one.
     fn send(&mut self) -> Result<Vec<u8>, Difference> {
-        let [message, frame, ..] = lengths(&self.settings);
-        let message = self.draws.bytes(message);
-        self.messages.push(message.clone());
-        let End { state, rows } = &self.sender;
-        let frame = self.draws.bytes(frame);
-        let mut call = Call::send(state.clone(), rows.clone(), message, frame);
+        let message = self.ends.message(self.draws);
+        let mut call = self.ends.send(self.draws, &message);
+        self.messages.push(message);
         self.call(&mut call)?;
-        self.sender = End { state: call.take("state"), rows: call.take("rows") };
+        self.ends.sender = End::left_by(&mut call);
         Ok(call.take("frame"))
     }
 
     /// The report of the slot due, sometimes behind a refused one: the reply and the message buffer.
-    fn report(&mut self, frame: Vec<u8>, lost: bool) -> Result<(u32, Vec<u8>), Difference> {
-        let buffer = self.draws.bytes(lengths(&self.settings)[0]);
-        let (state, rows) = (self.receiver.state.clone(), self.receiver.rows.clone());
-        let mut call = match lost {
-            true => Call::lost(state, rows, buffer),
-            false => Call::heard(state, rows, frame, buffer),
-        };
+    fn report(&mut self, heard: Option<Vec<u8>>) -> Result<(u32, Vec<u8>), Difference> {
+        let mut call = self.ends.report(self.draws, heard);
         let reply = self.call(&mut call)?;
-        self.receiver = End { state: call.take("state"), rows: call.take("rows") };
+        self.ends.receiver = End::left_by(&mut call);
         Ok((reply, call.take("message")))
     }
 
@@ -198,20 +156,21 @@ impl<'a> List<'a> {
         reply: u32,
         message: &[u8],
     ) -> Result<(), Difference> {
-        let (settings, opened_at) = (&self.settings, self.opened_at);
-        let Some(t) = slot.checked_sub(u32::from(settings.delay)) else {
+        let (settings, opened_at) = (&self.ends.settings, self.opened_at);
+        let Some(t) = slot.checked_sub(settings.t() as u32) else {
             return Ok(());
         };
         if self.damaged || !promised(settings, opened_at, lost, t) {
             return Ok(());
         }
-        if reply != 17 || message != self.messages[(t - self.first) as usize] {
+        if reply != 17 || message != self.messages[(t - self.ends.first) as usize] {
             return Err(self.comparison.failed(&format!("message {t} is not whole, as sent")));
         }
         let promise = Promise {
             in_a_fade: promised_in_a_fade(settings, opened_at, lost, t),
             earlier: t < opened_at,
             no_row: opened_at >= row_count(settings) as u32,
+            recovered: t < opened_at || lost[(t - opened_at) as usize],
         };
         self.comparison.met.add_promised(settings, promise);
         Ok(())

@@ -70,7 +70,7 @@ pub fn sparing_opening(draws: &mut Draws, settings: &Settings) -> u32 {
     }
     let remembered = row_count(settings) as u32;
     // The last one at which the message is still due before the slots end.
-    let last = END - u32::from(settings.delay);
+    let last = END - settings.t() as u32;
     let any = remembered + (draws.next() % u64::from(last - remembered)) as u32;
     draws.one_of(&[remembered, remembered + 1, any, last])
 }

@@ -34,18 +34,25 @@ pub fn run(comparison: &mut Comparison) -> Result<(), Difference> {
 
 /// Each bound and its neighbours.
 fn of_code(comparison: &mut Comparison, draws: &mut Draws, c: Settings) -> Result<(), Difference> {
+    let [w, t, b, n, l] = bytes_of(&c);
     for lanes in [0, 1, 2, 3, 16, 64, 65] {
-        for window in [c.delay - 1, c.delay, c.delay + 1, 255] {
-            both(comparison, draws, bytes_of(&Settings { window, lanes, ..c }))?;
+        for [w, t] in [[w, t], [255, t], [w, w], [w, 255]] {
+            both(comparison, draws, [w, t, b, n, lanes])?;
         }
     }
-    let [w, t, b, n, l] = bytes_of(&c);
+    for window in [0, b - 1, b, b + 1, t - 1, t] {
+        for t in [t, 255] {
+            both(comparison, draws, [window, t, b, n, l])?;
+        }
+    }
     for changed in [
         [w, t, b, 0, l],
         [w, t, b, b + 1, l],
         [w, t, n - 1, n, l],
         [w, t, t + 1, n, l],
         [w, b - 1, b, n, l],
+        [255, 255, b, n, l],
+        [w + 1, 255, b, n, l],
         [w + 1, t + 1, b, n, l],
         [w, t, b + 1, n, l],
         [w, t, b, n - 1, l],
@@ -87,14 +94,14 @@ fn any_number(draws: &mut Draws) -> u32 {
 /// A receiver opened at each slot of a code, and at slots that there are not: with nothing wrong,
 /// and with settings and lengths that are wrong, alone and together.
 fn at_slots(comparison: &mut Comparison, draws: &mut Draws, c: Settings) -> Result<(), Difference> {
-    let (window, lanes) = (super::window(draws, &c), super::rows::lanes(draws, &c));
-    let good = bytes_of(&Settings { window, lanes, ..c });
-    // The settings are not accepted, and every length is still theirs.
-    let bad = bytes_of(&Settings { window: c.delay, lanes, ..c });
-    let rows = lengths_of_rows(good)[1];
+    let lanes = super::rows::lanes(draws, &c);
+    let good = super::settings(draws, &c, lanes);
+    // The delay is then B − 1: the settings are not accepted, and every length is still theirs.
+    let bad = Settings { window: c.burst, ..good };
     let past = END + 1 + draws.below(1000) as u32;
     for slot in opening_slots(draws, &c).into_iter().chain([END, past, u32::MAX]) {
-        for settings in [good, bad] {
+        for settings in [good, bad].map(|settings| bytes_of(&settings)) {
+            let rows = lengths_of_rows(settings)[1];
             let others = [other_length(draws, STATE), other_length(draws, rows)];
             for (state, rows) in [(STATE, rows), (others[0], rows), (STATE, others[1])] {
                 let (state, rows) = (draws.bytes(state), draws.bytes(rows));
@@ -108,10 +115,11 @@ fn at_slots(comparison: &mut Comparison, draws: &mut Draws, c: Settings) -> Resu
 /// The lengths of the rows by document 01's products, even where the settings are not accepted:
 /// a wrong opening would then find nothing else to refuse. 0 where one is negative or long.
 fn lengths_of_rows(settings: [u8; 5]) -> [usize; 2] {
-    let [_, t, b, n, l] = settings.map(i64::from);
-    let k = t - n + 1;
+    let [w, t, b, n, l] = settings.map(i64::from);
+    let delay = t.min(w - 1).max(0);
+    let k = delay - n + 1;
     let symbols = k + b;
-    let lengths = [(symbols - 1) * k * l, (k + t) * (1 + symbols * l)];
+    let lengths = [(symbols - 1) * k * l, (k + delay) * (1 + symbols * l)];
     lengths.map(|length| if (0..LONG).contains(&length) { length as usize } else { 0 })
 }
 
@@ -122,8 +130,11 @@ mod tests {
 
     #[test]
     fn the_lengths_of_accepted_settings_are_the_references() {
-        for settings in every_code().iter().map(bytes_of) {
-            assert_eq!(lengths_of_rows(settings), lengths(&settings_of(settings))[2..]);
+        for [w, t, b, n, l] in every_code().iter().map(bytes_of) {
+            for [w, t] in [[w, t], [255, t], [w, w], [w, 255]] {
+                let settings = [w, t, b, n, l];
+                assert_eq!(lengths_of_rows(settings), lengths(&settings_of(settings))[2..]);
+            }
         }
     }
 }

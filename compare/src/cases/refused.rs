@@ -17,8 +17,8 @@ const EACH: usize = 150;
 pub fn run(comparison: &mut Comparison) -> Result<(), Difference> {
     for code in every_code() {
         let mut draws = comparison.case("refused calls");
-        let window = super::window(&mut draws, &code);
-        let settings = Settings { window, lanes: lanes(&mut draws, &code), ..code };
+        let lanes = lanes(&mut draws, &code);
+        let settings = super::settings(&mut draws, &code, lanes);
         let due = due(&mut draws, &settings);
         for call in calls(&mut draws, settings, due) {
             for _ in 0..EACH {

@@ -35,13 +35,12 @@ pub fn run(comparison: &mut Comparison) -> Result<(), Difference> {
     for code in every_code() {
         for case in 0..EACH + 2 {
             let mut draws = comparison.case("rows handed in");
-            let window = super::window(&mut draws, &code);
             let (lanes, slots) = match case {
                 EACH => (16, 3),
                 case if case > EACH => (64, 2),
                 _ => (lanes(&mut draws, &code), SLOTS),
             };
-            let settings = Settings { window, lanes, ..code };
+            let settings = super::settings(&mut draws, &code, lanes);
             let due = due(&mut draws, &settings);
             sends(comparison, &mut draws, SenderState { settings, due }, slots)?;
             let opened_at = opened_at(&mut draws, due);
@@ -61,7 +60,7 @@ pub fn lanes(draws: &mut Draws, code: &Settings) -> u8 {
 
 /// A slot due near 0, near k + T, near the end, or anywhere.
 pub fn due(draws: &mut Draws, settings: &Settings) -> u32 {
-    let delay = u32::from(settings.delay);
+    let delay = settings.t() as u32;
     let low = draws.below(3 * row_count(settings)) as u32;
     let near_end = END - 1 - draws.below(3) as u32;
     let near_half = (1 << 31) - draws.below(3) as u32;

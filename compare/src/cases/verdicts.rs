@@ -10,22 +10,34 @@ use crate::comparison::{Comparison, Difference};
 use crate::draw::Draws;
 use crate::model::lengths;
 
-/// Only for a slot due below T is the reply "none yet"; the others are mostly whole, lost and clash.
+/// Only for a slot due below the delay is the reply "none yet"; the others are mostly whole, lost and clash.
 const CHANGES: [Change; 4] = [Change::True, Change::AllLost, Change::OnlyBodies, Change::Damage];
 
 pub fn run(comparison: &mut Comparison) -> Result<(), Difference> {
     for code in every_code() {
         let mut draws = comparison.case("verdicts");
         let lanes = draws.one_of(&[1, 2, 3]);
-        let settings = Settings { window: super::window(&mut draws, &code), lanes, ..code };
-        let below = draws.below(settings.t()) as u32;
-        let above = super::rows::due(&mut draws, &settings).max(u32::from(code.delay));
-        for due in [below, above] {
-            for change in CHANGES {
-                let opened_at = opened_at(&mut draws, due);
-                let state = ReceiverState { settings, opened_at, due };
-                both(comparison, &mut draws, state, change)?;
-            }
+        let any = super::settings(&mut draws, &code, lanes);
+        let short = Settings { lanes, ..super::short_window(&mut draws, &code) };
+        for settings in [any, short] {
+            every_change(comparison, &mut draws, settings)?;
+        }
+    }
+    Ok(())
+}
+
+/// Each change of the rows, once for a slot due below the delay, and once from there on.
+fn every_change(
+    comparison: &mut Comparison,
+    draws: &mut Draws,
+    settings: Settings,
+) -> Result<(), Difference> {
+    let below = draws.below(settings.t()) as u32;
+    let above = super::rows::due(draws, &settings).max(settings.t() as u32);
+    for due in [below, above] {
+        for change in CHANGES {
+            let opened_at = opened_at(draws, due);
+            both(comparison, draws, ReceiverState { settings, opened_at, due }, change)?;
         }
     }
     Ok(())

@@ -1,24 +1,38 @@
-// Document 01's figures 9 to 12, run on both ends with one lane and then with three: a line for each, in which every lent byte begins
-// as 7. Lane 1 has α times the messages of lane 0, and lane 2 has them a slot later.
+// Document 01's figures 9 to 12, run on both ends with one lane and then with three, and document 02's example of a short window: a line
+// for each, in which every lent byte begins as 7. Lane 1 has α times the messages of lane 0, and lane 2 has them a slot later.
 use code::Settings;
+use ends::number_of;
 use protocol::Receiver;
 use protocol::Reply;
 use protocol::Sender;
 use receiver::Reported;
 ghost use mathlib.Core.Path.{_≡_};
-ghost use Prim.Native.Nat.{_≤_};
+ghost use Prim.Native.Nat.{_≤_, _<_};
 ghost use lib.ListN.{length};
 
-// The settings with so many lanes; k is 2 and n is 4.
-fn settings(lanes: usize) -> Settings
-    requires { ⌜ lanes ≤ 3 ⌝ }
+// The card's settings with so many lanes; k is 2 and n is 4.
+fn settings(lanes: u8) -> Settings
+    ensures { λ r. ⌜ r .lanes ≡ lanes ⌝ }
 {
     Settings {
         window: 4,
         delay: 3,
         burst: 2,
         scattered: 2,
-        lanes: lanes as u8,
+        lanes: lanes,
+    }
+}
+
+// A window of three slots, with this T; k is 2 and n is 4 where T is 2 or more.
+fn short(delay: u8) -> Settings
+    ensures { λ r. ⌜ r .lanes ≡ 1 ⌝ }
+{
+    Settings {
+        window: 3,
+        delay: delay,
+        burst: 2,
+        scattered: 1,
+        lanes: 1,
     }
 }
 
@@ -33,8 +47,9 @@ fn print_bytes(bytes: &[u8], first: usize) {
 
 fn print_reply(r: Reply, message: &[u8]) {
     match r {
-        Reply::Refused(_) => {
-            io::write_all(1, b" refused");
+        Reply::Refused(c) => {
+            io::write_all(1, b" ");
+            io::print_decimal(1, number_of(c) as u64);
         }
         Reply::NoneYet => {
             io::write_all(1, b" none");
@@ -71,19 +86,20 @@ fn message_of(lanes: usize, slot: usize) -> [u8; 6] {
     m
 }
 
-// The send of a slot.
-fn send(x: Sender, rows: &mut [u8], message: &[u8], frame: &mut [u8]) -> Sender {
+// The send of a slot; its frame is printed from a place on.
+fn send(x: Sender, first: usize, rows: &mut [u8], message: &[u8], frame: &mut [u8]) -> Sender {
     let sent = sender::send(x, rows, message, frame);
     io::write_all(1, b" ");
-    print_bytes(frame, 14);
+    print_bytes(frame, first);
     sent.sender
 }
 
-// Figure 9: the sends of slots 0 to 5. There are 26 bytes for each frame.
-fn send_all(lanes: usize, rows: &mut [u8], frames: &mut [u8])
-    requires { ⌜ (lanes ≤ 3) × (length (now frames) ≡ 156) ⌝ }
+// The sends of slots 0 to 5. There are 26 bytes for each frame.
+fn send_all(s: Settings, first: usize, rows: &mut [u8], frames: &mut [u8])
+    requires { ⌜ (s .lanes ≤ 3) × (length (now frames) ≡ 156) ⌝ }
 {
-    let opened = sender::open(settings(lanes), rows);
+    let opened = sender::open(s, rows);
+    let lanes = s.lanes as usize;
     let mut x = opened.sender;
     let mut slot: usize = 0;
     while slot < 6 {
@@ -91,7 +107,13 @@ fn send_all(lanes: usize, rows: &mut [u8], frames: &mut [u8])
         let message_end = 2 * lanes;
         let start = slot * 26;
         let end = start + 14 + 4 * lanes;
-        x = send(x, rows, &message[0..message_end], &mut frames[start..end]);
+        x = send(
+            x,
+            first,
+            rows,
+            &message[0..message_end],
+            &mut frames[start..end],
+        );
         slot += 1;
     }
 }
@@ -117,60 +139,128 @@ fn report(x: Receiver, lost: bool, rows: &mut [u8], frame: &[u8], message: &mut 
     after.receiver
 }
 
-// A receiver that is opened and hears slots 0 to 5, but for the first ones, which are lost.
-fn report_all(lanes: usize, lost: usize, rows: &mut [u8], frames: &[u8], message: &mut [u8])
-    requires { ⌜ (lanes ≤ 3) × (length (now frames) ≡ 156) ⌝ }
+// The report of the frame of a slot, one of six, that another sender sent, if there is one.
+fn report_other(
+    x: Receiver,
+    slot: usize,
+    rows: &mut [u8],
+    others: &[u8],
+    message: &mut [u8],
+) -> Receiver
+    requires { ⌜ slot < 6 ⌝ }
 {
-    let opened = receiver::open(settings(lanes), 0, rows);
+    if others.len() < 156 {
+        return x;
+    }
+    let start = slot * 26;
+    let end = start + 18;
+    report(x, false, rows, &others[start..end], message)
+}
+
+// A receiver that is opened and hears slots 0 to 5, but for the first ones, which are lost; in each slot the frame of another sender, if
+// there is one, comes first.
+fn report_all(
+    s: Settings,
+    lost: usize,
+    rows: &mut [u8],
+    frames: &[u8],
+    others: &[u8],
+    message: &mut [u8],
+)
+    requires { ⌜ (s .lanes ≤ 3) × (length (now frames) ≡ 156) ⌝ }
+{
+    let opened = receiver::open(s, 0, rows);
+    let lanes = s.lanes as usize;
     let mut x = opened.receiver;
     let mut slot: usize = 0;
     while slot < 6 {
         let start = slot * 26;
         let end = start + 14 + 4 * lanes;
+        x = report_other(x, slot, rows, others, message);
         x = report(x, slot < lost, rows, &frames[start..end], message);
         slot += 1;
     }
 }
 
-// The buffers of a receiver, and its reports.
-fn play(lanes: usize, lost: usize, frames: &[u8])
-    requires { ⌜ (lanes ≤ 3) × (length (now frames) ≡ 156) ⌝ }
+// The buffers of a receiver, whose rows have this length, and its reports.
+fn play(s: Settings, size: usize, lost: usize, frames: &[u8], others: &[u8])
+    requires { ⌜ (s .lanes ≤ 3) × (size ≤ 65) × (length (now frames) ≡ 156) ⌝ }
 {
     let mut rows = [7u8; 65];
     let mut message = [7u8; 6];
-    let rows_end = 5 + 20 * lanes;
-    let message_end = 2 * lanes;
+    let message_end = 2 * s.lanes as usize;
     report_all(
-        lanes,
+        s,
         lost,
-        &mut rows[0..rows_end],
+        &mut rows[0..size],
         frames,
+        others,
         &mut message[0..message_end],
     );
 }
 
-// The figures in so many lanes: 10 and 11 are of lost frames; in 12, lane 0 of the third symbol of slot 2 becomes 2.
-fn figures(lanes: usize)
-    requires { ⌜ lanes ≤ 3 ⌝ }
+// The figures with the card's settings, a receiver's rows having this length: 10 and 11 are of lost frames; in 12, lane 0 of the third
+// symbol of slot 2 becomes 2.
+fn figures(s: Settings, size: usize)
+    requires { ⌜ (s .lanes ≤ 3) × (size ≤ 65) ⌝ }
 {
+    let lanes = s.lanes as usize;
     let mut frames = [7u8; 156];
     let mut remembered = [7u8; 18];
     let remembered_end = 6 * lanes;
     io::write_all(1, b"9");
-    send_all(lanes, &mut remembered[0..remembered_end], &mut frames);
+    send_all(s, 14, &mut remembered[0..remembered_end], &mut frames);
     io::write_all(1, b"\n10");
-    play(lanes, 2, &frames);
+    play(s, size, 2, &frames, b"");
     io::write_all(1, b"\n11");
-    play(lanes, 3, &frames);
+    play(s, size, 3, &frames, b"");
     io::write_all(1, b"\n12");
     let place = 66 + 2 * lanes;
     frames[place] = 2;
-    play(lanes, 0, &frames);
+    play(s, size, 0, &frames, b"");
     io::write_all(1, b"\n");
 }
 
+// What begins a line of the short window.
+fn begin(word: &[u8], delay: u8) {
+    io::write_all(1, word);
+    io::write_all(1, b" ");
+    io::print_decimal(1, delay as u64);
+}
+
+// The whole frames of a sender in the short window.
+fn sent(delay: u8, frames: &mut [u8])
+    requires { ⌜ length (now frames) ≡ 156 ⌝ }
+{
+    let mut remembered = [7u8; 6];
+    begin(b"sent", delay);
+    send_all(short(delay), 0, &mut remembered, frames);
+    io::write_all(1, b"\n");
+}
+
+// What a receiver there makes of these frames, the first two of which are lost, and of another sender's.
+fn heard(delay: u8, frames: &[u8], others: &[u8])
+    requires { ⌜ length (now frames) ≡ 156 ⌝ }
+{
+    begin(b"heard", delay);
+    play(short(delay), 20, 2, frames, others);
+    io::write_all(1, b"\n");
+}
+
+// Document 02's example: T = 9 beside T = 2.
+fn short_window() {
+    let mut nine = [7u8; 156];
+    let mut two = [7u8; 156];
+    sent(9, &mut nine);
+    sent(2, &mut two);
+    heard(9, &nine, &two);
+    heard(2, &two, &nine);
+}
+
 fn main() {
-    figures(1);
+    figures(settings(1), 25);
     io::write_all(1, b"in three lanes\n");
-    figures(3);
+    figures(settings(3), 65);
+    io::write_all(1, b"in a window of three slots\n");
+    short_window();
 }

@@ -99,6 +99,20 @@ pub symbol-equal : (s : Settings) (x y : ℕ → ℕ) → ((r : ℕ) → r < kOf
 unfolding symbol
 symbol-equal s x y e p = ap (λ (u : List ℕ). wordAt s (λ r. getD u r 0) p) (multipliers-equal s x y (kOf s) e)
 
+-- settings with the same G have the same words
+module _ (s other : Settings) (same : (r p : ℕ) → entry s r p ≡ entry other r p) where
+  multipliers-same : (x : ℕ → ℕ) (m : ℕ) → multipliers s x m ≡ multipliers other x m
+  unfolding multipliers
+  multipliers-same x zero = refl
+  multipliers-same x (suc m) =
+      ap₂ (λ (u : List ℕ) (g : ℕ → ℕ). u ++ ((x m ⊕ sum m (λ r. getD u r 0 ⊗ g r)) ∷ [])) (multipliers-same x m) (λ i r. same r m i)
+
+  pub symbol-same : kOf s ≡ kOf other → (x : ℕ → ℕ) (p : ℕ) → symbol s x p ≡ symbol other x p
+  unfolding symbol wordAt
+  symbol-same sources x p =
+      ap₂ (λ (u : List ℕ) (g : ℕ → ℕ). sum (kOf s) (λ r. getD u r 0 ⊗ g r)) (multipliers-same x (kOf s)) (λ i r. same r p i)
+      ∙ ap (λ (k : ℕ). sum k (λ r. getD (multipliers other x k) r 0 ⊗ entry other r p)) sources
+
 module _ (s : Settings) (h : Shape s) where
   -- existence: the word begins with the choice of its first k symbols
   pub symbol-source : (x : ℕ → ℕ) → ((m : ℕ) → x m < 256) → (p : ℕ) → p < kOf s → symbol s x p ≡ x p

@@ -1,13 +1,13 @@
--- Document 01, "Settings": which are accepted, and k, n and d.
+-- Document 01, "Settings", and document 02 §5: which are accepted, the delay, and k, n and d.
 use mathlib.Core.Bool.{Bool, true, _&&_}
 use mathlib.Core.List.{List, [], _∷_}
-use Prim.Native.Nat.{ℕ, _+_, _-_}
+use Prim.Native.Nat.{ℕ, _+_, _-_, min}
 use lib.Dec.{leb}
 use Rattle.code.specs.declared.settings.Settings.{Settings}
 
--- T as the formulas use it; the frame and the state keep T as set
+-- T as every formula uses it: the smaller of T and W - 1 (document 02 §5); the frame, the state and cause 5 keep T as set
 unfoldable pub delayOf : Settings → ℕ
-delayOf s = s .delay
+delayOf s = min (s .delay) (s .window - 1)
 
 -- k, the source symbols of a word
 unfoldable pub kOf : Settings → ℕ
@@ -26,9 +26,9 @@ unfoldable pub all : List Bool → Bool
 all [] = true
 all (b ∷ bs) = b && all bs
 
--- 1 ≤ N ≤ B ≤ T, T - N + 1 + B ≤ 16, T + 1 ≤ W ≤ 255, 1 ≤ L ≤ 64
+-- 1 ≤ N ≤ B ≤ the delay, n ≤ 16, W ≤ 255, 1 ≤ L ≤ 64
 unfoldable pub accepted : Settings → Bool
 accepted s =
     all
     (leb 1 (s .scattered) ∷ leb (s .scattered) (s .burst) ∷ leb (s .burst) (delayOf s) ∷ leb (nOf s) 16
-    ∷ leb (s .delay + 1) (s .window) ∷ leb (s .window) 255 ∷ leb 1 (s .lanes) ∷ leb (s .lanes) 64 ∷ [])
+    ∷ leb (s .window) 255 ∷ leb 1 (s .lanes) ∷ leb (s .lanes) 64 ∷ [])

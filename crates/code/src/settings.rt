@@ -12,11 +12,17 @@ pub struct Settings {
 }
 
 impl Settings {
-    // T as the formulas use it.
+    // T as the formulas use it: the smaller of T and W - 1.
     pub fn effective_delay(self) -> u8
         ensures { λ r. ⌜ r ≡ delayOf self ⌝ }
     {
-        self.delay
+        if self.delay < self.window {
+            return self.delay;
+        }
+        if self.window < 1 {
+            return 0;
+        }
+        self.window - 1
     }
 
     // k, the source symbols of a word.
@@ -60,9 +66,6 @@ impl Settings {
             return false;
         }
         if 16 < self.symbols() {
-            return false;
-        }
-        if self.window <= self.delay {
             return false;
         }
         if self.lanes < 1 {

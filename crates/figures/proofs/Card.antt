@@ -5,7 +5,7 @@ use mathlib.Core.List.{List, [], _∷_, List·Memᴰ, List·Memᴰ·cases-cons, 
 use lib.Dec.{T}
 use lib.ListN.{drop, replicate}
 use Rattle.code.specs.declared.settings.Settings.{Settings}
-use Rattle.code.specs.Settings.{accepted}
+use Rattle.code.specs.Settings.{accepted, delayOf}
 use Rattle.protocol.specs.Lengths.{receiverLen}
 use Rattle.protocol.specs.Calls.{OpenedReceiver, openReceiverOf}
 use Rattle.protocol.specs.TwoLists.{ReportMade}
@@ -45,9 +45,9 @@ reported-quickly s fates ok hs h =
 
 -- so is what they tell
 told-quickly : (s : Settings) (fates : List Fate) → reported s 0 (calls s fates) ≡ quickReported s fates
-    → told (toldOf s fates) ≡ told (drop (s .delay) (toldBy s (quickReported s fates)))
+    → told (toldOf s fates) ≡ told (drop (delayOf s) (toldBy s (quickReported s fates)))
 unfolding toldOf
-told-quickly s fates = ap (λ (made : List ReportMade). told (drop (s .delay) (toldBy s made)))
+told-quickly s fates = ap (λ (made : List ReportMade). told (drop (delayOf s) (toldBy s made)))
 
 -- ---- the card
 

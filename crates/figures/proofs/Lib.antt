@@ -5,3 +5,4 @@ pub mod Claimed
 pub mod FigureTen
 pub mod Fade
 pub mod Late
+pub mod ShortWindow

@@ -7,7 +7,7 @@ use Rattle.galois.specs.Narrow.{_⊠_}
 use Rattle.galois.specs.Byte.{_⊗_, reciprocal}
 use Rattle.code.specs.declared.settings.Settings.{Settings}
 use Rattle.code.specs.Matrix.{entry}
-use Rattle.code.specs.Settings.{kOf}
+use Rattle.code.specs.Settings.{delayOf, kOf}
 use Rattle.galois.specs.Table.{table}
 use Rattle.code.specs.Word.{symbol}
 use Rattle.protocol.specs.declared.Reply.{Reply}
@@ -40,7 +40,7 @@ pub record Figure : Type 0 where
 
 -- ---- the code
 
--- settings with T, B and N, the shortest window and one lane
+-- settings with T, B and N, the shortest window for which T is the delay, and one lane
 abbrev pub setTo : ℕ → ℕ → ℕ → Settings
 setTo T B N = record { window = T + 1; delay = T; burst = B; scattered = N; lanes = 1 }
 
@@ -119,7 +119,7 @@ toldBy s = map (λ r. record {
 
 -- what they tell from slot T on, where message 0 is due
 unfoldable pub toldOf : Settings → List Fate → List Told
-toldOf s fates = drop (s .delay) (toldBy s (reported s 0 (calls s fates)))
+toldOf s fates = drop (delayOf s) (toldBy s (reported s 0 (calls s fates)))
 
 -- ---- the card
 

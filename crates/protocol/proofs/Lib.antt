@@ -29,6 +29,7 @@ pub mod SlotRows
 pub mod Arrivals
 pub mod ReportMeaning
 pub mod Openings
+pub mod Delays
 pub mod EarlyVerdict
 pub mod Recovery
 pub mod Demand

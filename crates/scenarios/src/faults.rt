@@ -20,10 +20,10 @@ pub(crate) fn broken(s: Settings, way: usize) -> Settings {
     let mut out = s;
     match way {
         0 => {
-            out.window = s.delay;
+            out.window = s.burst;
         }
         1 => {
-            out.burst = std::num::wrapping_add_u8(s.delay, 1);
+            out.burst = std::num::wrapping_add_u8(s.effective_delay(), 1);
         }
         2 => {
             out.scattered = 0;

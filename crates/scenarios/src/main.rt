@@ -88,10 +88,10 @@ fn late(s: Settings, x: &mut u64) {
     scenario(s, Kind::Late, 3999999999, x);
 }
 
-// The ten scenarios of a code.
-fn ten(delay: u8, burst: u8, scattered: u8, x: &mut u64) {
+// The ten scenarios of a window and a code.
+fn ten(window: u8, delay: u8, burst: u8, scattered: u8, x: &mut u64) {
     let s = Settings {
-        window: std::num::wrapping_add_u8(delay, 1),
+        window: window,
         delay: delay,
         burst: burst,
         scattered: scattered,
@@ -110,11 +110,15 @@ fn ten(delay: u8, burst: u8, scattered: u8, x: &mut u64) {
 
 fn main() {
     let mut x: u64 = 20261116;
-    ten(1, 1, 1, &mut x);
-    ten(3, 2, 2, &mut x);
-    ten(3, 3, 2, &mut x);
-    ten(2, 2, 1, &mut x);
-    ten(8, 8, 1, &mut x);
-    ten(15, 15, 15, &mut x);
-    ten(15, 1, 1, &mut x);
+    ten(2, 1, 1, 1, &mut x);
+    ten(4, 3, 2, 2, &mut x);
+    ten(4, 3, 3, 2, &mut x);
+    ten(3, 2, 2, 1, &mut x);
+    ten(9, 8, 8, 1, &mut x);
+    ten(16, 15, 15, 15, &mut x);
+    ten(16, 15, 1, 1, &mut x);
+    // windows that are no longer than the delay that was set
+    ten(3, 9, 2, 1, &mut x);
+    ten(4, 4, 2, 2, &mut x);
+    ten(12, 255, 8, 4, &mut x);
 }

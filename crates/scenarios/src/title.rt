@@ -23,9 +23,10 @@ fn kind(k: Kind) {
     }
 }
 
-// A scenario's settings but for the window, its kind and the slot that it starts at.
+// A scenario's settings, its kind and the slot that it starts at.
 pub(crate) fn scenario(s: Settings, k: Kind, start: u32) {
     io::write_all(1, b"scenario");
+    number(s.window as u64);
     number(s.delay as u64);
     number(s.burst as u64);
     number(s.scattered as u64);

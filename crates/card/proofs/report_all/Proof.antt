@@ -8,11 +8,11 @@ use Rattle.card.proofs.report_all.Statement.{statement}
 use Rattle.card.proofs.report_all.Tie as tie
 
 abbrev Inv-loop : tie.InvT-loop
-Inv-loop lanes lost rows₀ frames message₀ x₀ slot₀ rows message x slot =
+Inv-loop lost rows₀ frames others message₀ lanes x₀ slot₀ rows message x slot =
     (slot ≤ 6) × (length rows ≡ length rows₀) × (length message ≡ length message₀)
 
 abbrev μ-loop : tie.MeasureT-loop
-μ-loop lanes lost rows₀ frames message₀ x₀ slot₀ rows message x slot = 6 - slot
+μ-loop lost rows₀ frames others message₀ lanes x₀ slot₀ rows message x slot = 6 - slot
 
 pub report-all-spec : {M : Type 1} → statement M
 report-all-spec =
@@ -21,12 +21,13 @@ report-all-spec =
     Inv-loop
     μ-loop
     (λ c κs. search needs)
-    (λ c κs. search needs)
+    (λ c. search needs)
     (λ c. (zero-le, refl, refl))
     (λ c. omega arith)
     (λ c. omega arith)
     (λ c. omega arith)
     (λ c. omega arith)
+    (λ c κs. omega arith)
     (λ c. omega arith)
     (λ c. omega arith)
     (λ c. omega arith)

@@ -8,11 +8,11 @@ use Rattle.card.proofs.send_all.Statement.{statement}
 use Rattle.card.proofs.send_all.Tie as tie
 
 abbrev Inv-loop : tie.InvT-loop
-Inv-loop lanes rows₀ frames₀ x₀ slot₀ rows frames x slot =
+Inv-loop first rows₀ frames₀ lanes x₀ slot₀ rows frames x slot =
     (slot ≤ 6) × (length rows ≡ length rows₀) × (length frames ≡ length frames₀)
 
 abbrev μ-loop : tie.MeasureT-loop
-μ-loop lanes rows₀ frames₀ x₀ slot₀ rows frames x slot = 6 - slot
+μ-loop first rows₀ frames₀ lanes x₀ slot₀ rows frames x slot = 6 - slot
 
 pub send-all-spec : {M : Type 1} → statement M
 send-all-spec =
@@ -21,7 +21,7 @@ send-all-spec =
     Inv-loop
     μ-loop
     (λ c κs. search needs)
-    (λ c κs. search needs)
+    (λ c. search needs)
     (λ c. (zero-le, refl, refl))
     (λ c κs. search needs)
     (λ c. omega arith)
