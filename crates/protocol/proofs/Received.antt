@@ -3,7 +3,6 @@ use mathlib.Core.Path.{_≡_, refl, ap, _∙_, subst, subst⁻¹}
 use mathlib.Core.List.{List, List·Memᴰ, List·Memᴰ·not-nil, List·Memᴰ·cases-cons}
 use mathlib.Core.Logic.{_⊎_, inl, inr, ⊎-elim}
 use Prim.Native.Nat.{ℕ, _+_, _≤_}
-use native.Mathlib.Nat.{add-sub-cancel}
 use native.Mathlib.Omega.{arith}
 use lib.Dec.{T}
 use lib.ListN.{length, take}
@@ -64,7 +63,8 @@ pub by-verdict : (x : Receiver) (t : ℕ) (row rows : List ℕ) → x .due ≡ t
 unfolding movedOn messageDue
 by-verdict x t row rows e =
     let delay : ℕ = delayOf (x .settings) in
-    rw (e, le-ltb (t + delay) delay (omega arith), add-sub-cancel t delay) (refl, refl)
+    let due : messageDue (x .settings) (t + delay) ≡ t = omega arith in
+    rw (e, le-ltb (t + delay) delay (omega arith), due) (refl, refl)
 
 module _ {s : Settings} {d : ℕ} {rows : List ℕ} {told : List ReportMade} (chain : Chain s d rows told) where
   -- a report is accepted exactly where no listed cause holds, in terms of the settings of the opening

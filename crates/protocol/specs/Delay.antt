@@ -57,7 +57,7 @@ atDelay s = record { window = s .window; delay = delayOf s; burst = s .burst; sc
 pub record Delays : Type 0 where
   -- settings that document 01 accepted are accepted, and work with T as set, as before
   pub as-before : (s : Settings) → T (acceptedBefore s) → T (accepted s) × WorkWith (s .delay) s
-  -- others work with W - 1, the window being at or below T
+  -- settings whose window is at or below T work with W - 1
   pub short-window : (s : Settings) → s .window ≤ s .delay → WorkWith (s .window - 1) s
   -- accepted are those that document 01 accepts with the smaller number set as T
   pub rule : (s : Settings) → T (accepted s) ↔ T (acceptedBefore (atDelay s))
