@@ -1,6 +1,7 @@
 /* Both ends of a link in one program: numbered messages, a loss pattern, and what the receiver says of each slot, beside
- * a second one that is switched on in the middle. Returns 1 if a message under fair losses does not come out whole, as
- * it was sent. */
+ * a second one that is switched on in the middle. After each slot the messages in reach are looked up, and with each
+ * message is printed since when it was known. Returns 1 if a message under fair losses does not come out whole, as it
+ * was sent, or one that was known does not stay so. */
 #include <stdbool.h>
 #include <stdio.h>
 #include <stdlib.h>
@@ -54,9 +55,11 @@ static uint8_t *lend(size_t len)
     return bytes;
 }
 
-/* A receiver: the slot that it was opened at, its state, and its rows. */
+/* A receiver: the slot that it was opened at, its state, its rows, and the slot by which each message was known, or
+ * NEVER. */
+enum { NEVER = -1 };
 struct receiver {
-    int opening;
+    int opening, known[SLOTS];
     uint8_t state[TOB_STATE_LEN], *rows;
 };
 
@@ -64,12 +67,36 @@ struct receiver {
 static bool switch_on(struct receiver *r, int slot)
 {
     r->opening = slot;
+    for (int t = 0; t < SLOTS; t++)
+        r->known[t] = NEVER;
     r->rows = lend(tob_receiver_len(settings));
     return tob_open_receiver_at(settings, (uint32_t)slot, r->state, sizeof r->state, r->rows,
                                 tob_receiver_len(settings)) == TOB_ACCEPTED;
 }
 
-/* Reports the slot's frame, or that it was lost, and prints the reply. False if a message that is promised is not there. */
+/* Looks up the messages in reach once this slot is reported, and notes those that are known now. False if one is not as
+ * it was sent. */
+static bool look_up(struct receiver *r, int slot)
+{
+    size_t message_len = tob_message_len(settings);
+    uint8_t *out = lend(message_len), *message = lend(message_len);
+    bool good = true;
+    for (int t = slot - DELAY + 1; t <= slot; t++) {
+        uint32_t reply = tob_look_up(r->state, sizeof r->state, r->rows, tob_receiver_len(settings), t, out, message_len);
+        if (reply == TOB_WHOLE) {
+            fill(message, message_len, t);
+            good = memcmp(out, message, message_len) == 0 && good;
+            r->known[t] = r->known[t] == NEVER ? slot : r->known[t];
+        } else {
+            good = (t < 0 ? reply == TOB_OUT_OF_REACH : reply == TOB_LOST && r->known[t] == NEVER) && good;
+        }
+    }
+    free(out), free(message);
+    return good;
+}
+
+/* Reports the slot's frame, or that it was lost, and prints the reply. False if a message that is promised, or was known,
+ * is not there. */
 static bool report(struct receiver *r, int slot, const uint8_t *frame, bool shown)
 {
     size_t rows_len = tob_receiver_len(settings), message_len = tob_message_len(settings);
@@ -80,17 +107,20 @@ static bool report(struct receiver *r, int slot, const uint8_t *frame, bool show
             ? tob_lost(r->state, sizeof r->state, r->rows, rows_len, out, message_len)
             : tob_heard(r->state, sizeof r->state, r->rows, rows_len, frame, tob_frame_len(settings), out, message_len);
 
+    bool before = t >= 0 && r->known[t] != NEVER;
     if (shown && reply == TOB_NONE_YET)
         printf("none yet\n");
     else if (shown && reply == TOB_WHOLE)
-        printf("%d whole %02x%02x%02x%02x\n", t, out[0], out[1], out[2], out[3]);
+        printf("%d whole %02x%02x%02x%02x, known since slot %d\n", t, out[0], out[1], out[2], out[3],
+               before ? r->known[t] : slot);
     else if (shown)
         printf("%d %s\n", t, reply == TOB_LOST ? "lost" : reply == TOB_CLASH ? "clash" : "refused");
 
     fill(message, message_len, t);
-    bool good = t < 0 || !is_fair(t, r->opening) || (reply == TOB_WHOLE && memcmp(out, message, message_len) == 0);
+    bool promised = t >= 0 && (before || is_fair(t, r->opening));
+    bool good = !promised || (reply == TOB_WHOLE && memcmp(out, message, message_len) == 0);
     free(out), free(message);
-    return good;
+    return look_up(r, slot) && good;
 }
 
 int main(void)
@@ -119,8 +149,8 @@ int main(void)
         good = report(&late, slot, frame, slot <= SHOWN) && good;
     }
 
-    /* Refused: the last frame is not that of the slot that is due now, a sender's state is no receiver's, and there is
-     * no slot 4,000,000,000 to open a receiver at. */
+    /* Refused: the last frame is not that of the slot that is due now, a sender's state is no receiver's, there is no slot
+     * 4,000,000,000 to open a receiver at, and nothing was reported of the message that is due now. */
     if (tob_heard(first.state, sizeof first.state, first.rows, receiver_len, frame, frame_len, message, message_len)
         != TOB_OTHER_SLOT)
         good = false;
@@ -129,7 +159,11 @@ int main(void)
     if (tob_open_receiver_at(settings, 4000000000u, late.state, sizeof late.state, late.rows, receiver_len)
         != TOB_LATE_OPENING)
         good = false;
-    printf("the last frame again: refused\nwith the sender's state: refused\nopened past the last slot: refused\n%s\n",
+    if (tob_look_up(first.state, sizeof first.state, first.rows, receiver_len, SLOTS, message, message_len)
+        != TOB_OUT_OF_REACH)
+        good = false;
+    printf("the last frame again: refused\nwith the sender's state: refused\nopened past the last slot: refused\n"
+           "a message to come looked up: refused\n%s\n",
            good ? "good" : "bad");
     free(sender_rows), free(first.rows), free(late.rows), free(message), free(frame);
     return good ? 0 : 1;

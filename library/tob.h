@@ -8,7 +8,7 @@
  * and the rows, as long as tob_sender_len or tob_receiver_len says. An opening fills both, and every later call gets
  * both as the call before it left them. A message is as long as tob_message_len says, and a frame as tob_frame_len says.
  *
- * Each call says by one number what became of it. With one of the seven causes, 1 to 7, it is refused and changes no byte
+ * Each call says by one number what became of it. With one of the eight causes, 1 to 8, it is refused and changes no byte
  * that it was lent. The causes are checked in the order of their numbers, and the first that holds is the reply. Of a
  * state of another length no settings can be read, so there TOB_BAD_LENGTH comes before TOB_BAD_SETTINGS. Below, the
  * replies of each call stand in the order of checking.
@@ -36,7 +36,8 @@ extern "C" {
 
 /* Refused: the settings are not accepted, or the state is not one of this end and so holds none; the state or a buffer
  * has another length than it should; the last slot, 3,999,999,999, is past; a frame of another mark or version, of
- * other settings, or of another slot than the slot due; and a receiver is to be opened past the last slot. */
+ * other settings, or of another slot than the slot due; a receiver is to be opened past the last slot; and a look-up is
+ * of a message whose own slot is not reported yet, whose last slot is, or whose number is below 0. */
 #define TOB_BAD_SETTINGS 1u
 #define TOB_BAD_LENGTH 2u
 #define TOB_PAST_LAST_SLOT 3u
@@ -44,9 +45,10 @@ extern "C" {
 #define TOB_OTHER_SETTINGS 5u
 #define TOB_OTHER_SLOT 6u
 #define TOB_LATE_OPENING 7u
+#define TOB_OUT_OF_REACH 8u
 
-/* A report, accepted: it is too early for a message; the message is whole, and handed out; it is lost; or the frames
- * contradict each other. */
+/* A report or a look-up, accepted: it is too early for a message, which only a report says; the message is whole, and
+ * handed out; it is lost; or the frames contradict each other. */
 #define TOB_NONE_YET 16u
 #define TOB_WHOLE 17u
 #define TOB_LOST 18u
@@ -98,6 +100,21 @@ uint32_t tob_heard(uint8_t *state, size_t state_len, uint8_t *rows, size_t rows_
  * TOB_NONE_YET (while t < D), TOB_WHOLE, TOB_LOST or TOB_CLASH. */
 uint32_t tob_lost(uint8_t *state, size_t state_len, uint8_t *rows, size_t rows_len, uint8_t *message,
                   size_t message_len);
+
+/* Looks a message up by its number before its last slot, number + D, is reported: what is known of it from the slots
+ * reported so far, as if those to come were lost. It may be called between any two reports, as often as wanted: it reads
+ * the state and the rows, and writes the message buffer alone, the message where the reply is TOB_WHOLE, else zeros. In
+ * reach are the messages t with t < due <= t + D, where due is the slot due; any other number is TOB_OUT_OF_REACH.
+ *
+ * When a clerk may show the message: from the first TOB_WHOLE on. Where the frames are the sender's own, every later
+ * look-up that is not refused, and the report of the last slot, then say TOB_WHOLE with the same bytes, and they are the
+ * message as it was sent. It is said from the first slot on at which it can be known: right after the message's own slot
+ * where that was heard. TOB_LOST means that it is not known yet; it is final only at the report of the last slot.
+ * TOB_CLASH means that frames were not the sender's own, and nothing should be shown.
+ * TOB_BAD_LENGTH (state), TOB_BAD_SETTINGS (state), TOB_BAD_LENGTH (rows or message), TOB_PAST_LAST_SLOT,
+ * TOB_OUT_OF_REACH, or else TOB_WHOLE, TOB_LOST or TOB_CLASH. */
+uint32_t tob_look_up(const uint8_t *state, size_t state_len, const uint8_t *rows, size_t rows_len, int64_t number,
+                     uint8_t *message, size_t message_len);
 
 #ifdef __cplusplus
 }

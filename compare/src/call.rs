@@ -1,4 +1,4 @@
-//! The six calls with the things that they are lent, and the library's side of each.
+//! The seven calls with the things that they are lent, and the library's side of each.
 
 use crate::lent::Lent;
 
@@ -10,16 +10,18 @@ pub enum Kind {
     Send,
     Heard,
     Lost,
+    LookUp,
 }
 
 impl Kind {
-    pub const ALL: [Kind; 6] = [
+    pub const ALL: [Kind; 7] = [
         Kind::OpenSender,
         Kind::OpenReceiver,
         Kind::OpenReceiverAt,
         Kind::Send,
         Kind::Heard,
         Kind::Lost,
+        Kind::LookUp,
     ];
 
     pub fn name(self) -> &'static str {
@@ -30,11 +32,13 @@ impl Kind {
             Kind::Send => "send",
             Kind::Heard => "heard",
             Kind::Lost => "lost",
+            Kind::LookUp => "look_up",
         }
     }
 
     /// The names of the things lent, in the order of the library's arguments. The slot of an
-    /// opening is handed over as a number; here it is its four bytes, high byte first.
+    /// opening and the number of a message are handed over as numbers; here they are their four
+    /// bytes and eight, high byte first.
     pub fn things(self) -> &'static [&'static str] {
         match self {
             Kind::OpenSender | Kind::OpenReceiver => &["settings", "state", "rows"],
@@ -42,6 +46,7 @@ impl Kind {
             Kind::Send => &["state", "rows", "message", "frame"],
             Kind::Heard => &["state", "rows", "frame", "message"],
             Kind::Lost => &["state", "rows", "message"],
+            Kind::LookUp => &["state", "rows", "number", "message"],
         }
     }
 
@@ -79,6 +84,11 @@ impl Call {
         Call { kind: Kind::Lost, things: vec![state, rows, message] }
     }
 
+    pub fn look_up(state: Vec<u8>, rows: Vec<u8>, number: i64, message: Vec<u8>) -> Call {
+        let number = number.to_be_bytes().to_vec();
+        Call { kind: Kind::LookUp, things: vec![state, rows, number, message] }
+    }
+
     /// The thing of this name, if the call is lent one.
     pub fn place(&self, name: &str) -> Option<usize> {
         self.kind.things().iter().position(|thing| *thing == name)
@@ -99,6 +109,11 @@ impl Call {
 /// The number that four bytes are, high byte first.
 pub fn number_of(bytes: &[u8]) -> u32 {
     u32::from_be_bytes(bytes.try_into().expect("a number is four bytes"))
+}
+
+/// The number of a message, which may be below 0, that eight bytes are, high byte first.
+pub fn message_number_of(bytes: &[u8]) -> i64 {
+    i64::from_be_bytes(bytes.try_into().expect("a message's number is eight bytes"))
 }
 
 /// The library's answer; what it writes is in the things afterwards.
@@ -122,6 +137,10 @@ pub fn by_library(kind: Kind, lent: &mut [Lent]) -> u32 {
         }
         (Kind::Lost, [state, rows, message]) => {
             tob::lost(state.bytes(), rows.bytes(), message.bytes())
+        }
+        (Kind::LookUp, [state, rows, number, message]) => {
+            let number = message_number_of(number.read());
+            tob::look_up(state.read(), rows.read(), number, message.bytes())
         }
         _ => unreachable!("a call is lent the things of its kind"),
     }

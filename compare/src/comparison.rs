@@ -4,10 +4,10 @@ use std::hint::black_box;
 
 use reference::settings::Settings;
 
-use crate::call::{by_library, Call};
+use crate::call::{by_library, message_number_of, Call, Kind};
 use crate::draw::Draws;
 use crate::lent::Lent;
-use crate::model::{by_reference, lengths, settings_of, STATE};
+use crate::model::{by_reference, lengths, receiver_of, settings_of, STATE};
 use crate::report::Met;
 
 /// Why the comparison ended.
@@ -54,9 +54,17 @@ impl Comparison {
         if found != expected || any_difference(call, &lent).is_some() {
             return Err(self.text(&before, call, &lent, [found, expected]));
         }
-        self.met.add(call.kind, found, settings_in(&before));
-        self.calls += 1;
+        self.count(&before, found);
         Ok(found)
+    }
+
+    /// Counts a call and its reply, and of a look-up the number that was out of reach.
+    fn count(&mut self, call: &Call, reply: u32) {
+        self.met.add(call.kind, reply, settings_in(call));
+        if let (Kind::LookUp, 8, Ok(state)) = (call.kind, reply, receiver_of(&call.things[0])) {
+            self.met.look_ups.add_out_of_reach(&state, message_number_of(&call.things[2]));
+        }
+        self.calls += 1;
     }
 
     /// The four length functions, for any five bytes.

@@ -27,10 +27,14 @@ impl Lent {
         &mut self.held[self.start..self.end]
     }
 
+    /// The bytes, lent for reading only.
+    pub fn read(&self) -> &[u8] {
+        &self.held[self.start..self.end]
+    }
+
     /// The settings, which are five bytes in every call.
     pub fn settings(&self) -> &tob::Settings {
-        let bytes = &self.held[self.start..self.end];
-        bytes.try_into().expect("settings are five bytes")
+        self.read().try_into().expect("settings are five bytes")
     }
 
     /// The first byte, guard bytes included, that is not as expected.

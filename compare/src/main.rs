@@ -7,7 +7,9 @@ mod call;
 mod cases;
 mod comparison;
 mod draw;
+mod earlier;
 mod lent;
+mod look_ups;
 mod model;
 mod report;
 
@@ -50,6 +52,7 @@ fn run(seed: u64) -> Result<String, String> {
         println!("{name}: {} cases, {} calls", grouped(cases), grouped(calls));
     }
     println!("{}", comparison.met.text());
+    println!("{}", comparison.met.earlier.text());
     let missing = comparison.met.missing();
     if !missing.is_empty() {
         return Err(format!("too little was met: {}", missing.join("; ")));

@@ -6,7 +6,7 @@ use reference::sender;
 use reference::settings::Settings;
 use reference::state::{ReceiverState, Refusal, SenderState};
 
-use crate::call::{number_of, Kind};
+use crate::call::{message_number_of, number_of, Kind};
 
 /// The length of a state: its mark, W, T, B, N, L, the slot due, a receiver's opening slot, and
 /// bytes that are kept for later.
@@ -70,7 +70,7 @@ fn sender_of(bytes: &[u8]) -> Result<SenderState, u32> {
 }
 
 /// The state that a receiver's bytes hold; those behind the opening slot say nothing.
-fn receiver_of(bytes: &[u8]) -> Result<ReceiverState, u32> {
+pub fn receiver_of(bytes: &[u8]) -> Result<ReceiverState, u32> {
     let settings = settings_in(RECEIVER, bytes)?;
     let [due, opened_at] = [DUE, OPENED_AT].map(|place| number_of(&bytes[place]));
     Ok(ReceiverState { settings, opened_at, due })
@@ -114,6 +114,9 @@ pub fn by_reference(kind: Kind, things: &mut [Vec<u8>]) -> u32 {
             let (next, reply) = receiver::report_loss(start, rows, message);
             reply.map(|reply| (number(reply), receiver_bytes(&next)))
         }),
+        (Kind::LookUp, [state, rows, number, message]) => {
+            looked_up(state, rows, message_number_of(number), message)
+        }
         _ => unreachable!("a call is lent the things of its kind"),
     }
 }
@@ -167,6 +170,15 @@ fn moved_on<A>(
             state.copy_from_slice(&next);
             reply
         }
+        Ok(Err(refusal)) => u32::from(refusal.number()),
+        Err(cause) => cause,
+    }
+}
+
+/// A call that starts from a state and leaves it: the message buffer alone is written.
+fn looked_up(state: &[u8], rows: &[u8], of: i64, message: &mut [u8]) -> u32 {
+    match receiver_of(state).map(|start| receiver::look_up(start, rows, of, message)) {
+        Ok(Ok(reply)) => number(reply),
         Ok(Err(refusal)) => u32::from(refusal.number()),
         Err(cause) => cause,
     }
@@ -250,6 +262,36 @@ mod tests {
             let mut things = [before.clone(), vec![0; rows], vec![0; message], vec![0; frame]];
             assert_eq!(by_reference(Kind::Send, &mut things), reply);
             assert_eq!(things[0], if reply == 0 { bytes(due + 1) } else { before });
+        }
+    }
+
+    /// A look-up from these bytes over lost rows: the reply, when the buffer alone has changed.
+    fn look_up(state: Vec<u8>, more: [usize; 2], number: i64) -> u32 {
+        let [message, .., rows] = lengths(&settings());
+        let (rows, message) = (vec![0; rows + more[0]], vec![7; message + more[1]]);
+        let mut call = Call::look_up(state, rows, number, message);
+        let before = call.things.clone();
+        let reply = by_reference(call.kind, &mut call.things);
+        assert_eq!(call.things[..3], before[..3]);
+        assert_eq!(call.things[3].iter().all(|byte| *byte == 0), reply == 18);
+        assert!(reply == 18 || call.things == before);
+        reply
+    }
+
+    #[test]
+    fn a_look_up_meets_1_before_2_before_3_before_8_and_leaves_the_state() {
+        let other = Settings { lanes: 65, ..settings() };
+        let sender = sender_bytes(&SenderState { settings: settings(), due: 9 });
+        let mut unread = state(settings(), 9);
+        unread[UNREAD_OF_RECEIVER..].fill(7);
+        assert_eq!([5, 6, 8, 9].map(|t| look_up(unread.clone(), [0, 0], t)), [8, 18, 18, 8]);
+        for number in [-1, 8, 9] {
+            assert_eq!(look_up(state(settings(), END), [0, 0], number), 3);
+            assert_eq!(look_up(state(settings(), END), [1, 0], number), 2);
+            assert_eq!(look_up(state(settings(), 9), [0, 1], number), 2);
+            assert_eq!(look_up(state(other, END), [1, 1], number), 1);
+            assert_eq!(look_up(sender.clone(), [1, 1], number), 1);
+            assert_eq!(look_up(sender[1..].to_vec(), [0, 0], number), 2);
         }
     }
 

@@ -5,14 +5,19 @@ use std::collections::{BTreeMap, BTreeSet};
 use reference::settings::{every_code, Settings};
 
 use crate::call::Kind;
+use crate::earlier::Earlier;
+use crate::look_ups::LookUps;
 
 /// Every number that a call can reply; a comparison that never met one of them proves little.
-const REPLIES: [u32; 12] = [0, 1, 2, 3, 4, 5, 6, 7, 16, 17, 18, 19];
+const REPLIES: [u32; 13] = [0, 1, 2, 3, 4, 5, 6, 7, 8, 16, 17, 18, 19];
 
 /// The number of accepted (T, B, N).
 const CODES: usize = 372;
 
 type Code = (u8, u8, u8);
+
+/// How often each code met something.
+pub type Counts = BTreeMap<Code, usize>;
 
 /// The accepted replies of each kind of call that codes have met.
 type Accepted = BTreeMap<Code, BTreeSet<(Kind, u32)>>;
@@ -45,14 +50,16 @@ pub struct Met {
     /// Messages due under fair losses; each was handed out whole, as sent.
     fair: usize,
     /// How many of them were promised by the wider rule only, by code.
-    fades: BTreeMap<Code, usize>,
+    fades: Counts,
     /// How many of them were of slots before the opening, by code.
-    earlier: BTreeMap<Code, usize>,
+    before_opening: Counts,
     /// How many of those behind an opening that left no row received, by code.
-    earlier_with_no_row: BTreeMap<Code, usize>,
+    before_opening_with_no_row: Counts,
     /// How many of the messages had their own slot lost, where the window was at or below T as set,
     /// by code.
-    recovered_when_short: BTreeMap<Code, usize>,
+    recovered_when_short: Counts,
+    pub look_ups: LookUps,
+    pub earlier: Earlier,
 }
 
 impl Met {
@@ -75,8 +82,8 @@ impl Met {
         self.fair += 1;
         for (holds, counts) in [
             (promise.in_a_fade, &mut self.fades),
-            (promise.earlier, &mut self.earlier),
-            (promise.earlier && promise.no_row, &mut self.earlier_with_no_row),
+            (promise.earlier, &mut self.before_opening),
+            (promise.earlier && promise.no_row, &mut self.before_opening_with_no_row),
             (promise.recovered && is_short(settings), &mut self.recovered_when_short),
         ] {
             if holds {
@@ -87,13 +94,13 @@ impl Met {
 
     /// Each kind of promise that some codes can have: what it is called, how often each code met
     /// it, and how many codes there are that can.
-    fn promises(&self) -> [(&'static str, &BTreeMap<Code, usize>, usize); 4] {
+    fn promises(&self) -> [(&'static str, &Counts, usize); 4] {
         [
             ("promised by the wider rule only", &self.fades, with_fades()),
-            ("of slots before the opening", &self.earlier, every_code().len()),
+            ("of slots before the opening", &self.before_opening, every_code().len()),
             (
                 "of slots before an opening that left no row received",
-                &self.earlier_with_no_row,
+                &self.before_opening_with_no_row,
                 with_long_bursts(),
             ),
             (
@@ -139,6 +146,10 @@ impl Met {
             let (messages, codes) = (grouped(counts.values().sum()), counts.len());
             lines.push(format!("of these, {name}: {messages}, of {codes} (T, B, N)"));
         }
+        for (name, counts, _) in self.look_ups.demands() {
+            let (calls, codes) = (grouped(counts.values().sum()), counts.len());
+            lines.push(format!("look-ups {name}: {calls}, of {codes} (T, B, N)"));
+        }
         let [l, w, t] = [&self.lanes, &self.windows, &self.delays].map(BTreeSet::len);
         lines.push(format!("different L: {l}; different W: {w}; different T as set: {t}"));
         for (name, codes) in self.by_window() {
@@ -177,13 +188,17 @@ impl Met {
             let met = counts.len();
             due(met == count, format!("{met} (T, B, N) had a message {name}, and not {count}"));
         }
+        for (name, counts, count) in self.look_ups.demands() {
+            let met = counts.len();
+            due(met == count, format!("{met} (T, B, N) had a look-up {name}, and not {count}"));
+        }
         due(self.lengths > 0 && self.fair > 0, "a part did not run".to_string());
         missing
     }
 }
 
 /// T is here the delay.
-fn code_of(settings: &Settings) -> Code {
+pub fn code_of(settings: &Settings) -> Code {
     (settings.t() as u8, settings.burst, settings.scattered)
 }
 
@@ -209,13 +224,14 @@ fn with_long_bursts() -> usize {
     every_code().iter().filter(|code| code.k() <= usize::from(code.burst)).count()
 }
 
-/// Each cause that document 01's table and document 02 §3 have for a kind of call.
+/// Each cause that document 01's table and document 02 §3 and §6 have for a kind of call.
 fn refusals(kind: Kind) -> impl Iterator<Item = (Kind, u32)> {
     let causes: &[u32] = match kind {
         Kind::OpenSender | Kind::OpenReceiver => &[1, 2],
         Kind::OpenReceiverAt => &[1, 2, 7],
         Kind::Send | Kind::Lost => &[1, 2, 3],
         Kind::Heard => &[1, 2, 3, 4, 5, 6],
+        Kind::LookUp => &[1, 2, 3, 8],
     };
     causes.iter().map(move |cause| (kind, *cause))
 }
@@ -225,14 +241,16 @@ fn accepted((delay, burst, scattered): Code) -> BTreeSet<(Kind, u32)> {
     let reports = (16..=19).flat_map(|reply| [(Kind::Heard, reply), (Kind::Lost, reply)]);
     let others = [Kind::OpenSender, Kind::OpenReceiver, Kind::OpenReceiverAt, Kind::Send];
     let others = others.map(|kind| (kind, 0));
-    let mut replies: BTreeSet<(Kind, u32)> = reports.chain(others).collect();
+    let look_ups = (17..=19).map(|reply| (Kind::LookUp, reply));
+    let mut replies: BTreeSet<_> = reports.chain(others).chain(look_ups).collect();
     // Where k is 1, or the code only repeats, the frame of slot t + T alone tells message t.
     if delay == scattered || (delay == burst && scattered == 1) {
         replies.remove(&(Kind::Heard, 18));
     }
-    // Here the frame of slot t is then all that is known of message t.
+    // Here the frame of slot t is then all that is known of message t, and in a look-up as well.
     if delay == 1 {
         replies.remove(&(Kind::Lost, 19));
+        replies.remove(&(Kind::LookUp, 19));
     }
     replies
 }
@@ -247,6 +265,8 @@ pub fn grouped(number: usize) -> String {
 
 #[cfg(test)]
 mod tests {
+    use reference::state::ReceiverState;
+
     use super::*;
 
     #[test]
@@ -319,6 +339,83 @@ mod tests {
             add(&mut met, short(code));
         }
         assert_eq!((missing(&met), covered(&met.short)), (0, CODES));
+    }
+
+    /// A kind of look-up is missing until every one of these codes met one.
+    fn look_up_missing_until_met(
+        name: &str,
+        codes: impl Iterator<Item = Settings>,
+        add: fn(&mut LookUps, Settings),
+    ) {
+        let missing = |met: &Met| {
+            let texts = met.missing();
+            texts.iter().any(|text| text.contains("had a look-up") && text.contains(name))
+        };
+        let mut met = Met::default();
+        for code in codes {
+            assert!(missing(&met), "{name}");
+            add(&mut met.look_ups, code);
+        }
+        assert!(!missing(&met), "{name}");
+    }
+
+    /// A look-up that was refused with 8, of a number so many below the slot due.
+    fn refused(look_ups: &mut LookUps, settings: Settings, due: u32, below: usize) {
+        let state = ReceiverState { settings, opened_at: 0, due };
+        look_ups.add_out_of_reach(&state, i64::from(due) - below as i64);
+    }
+
+    #[test]
+    fn a_look_up_is_missing_until_every_code_that_can_met_it() {
+        let every = || every_code().into_iter();
+        look_up_missing_until_met("below due − T alone", every(), |look_ups, code| {
+            refused(look_ups, code, 99, 100);
+            refused(look_ups, code, 99, code.t() + 1);
+        });
+        look_up_missing_until_met("below 0 alone", every(), |look_ups, code| {
+            refused(look_ups, code, 0, 1);
+        });
+        look_up_missing_until_met("not being below due", every(), |look_ups, code| {
+            refused(look_ups, code, 7, 0);
+        });
+        look_up_missing_until_met("T as set would reach", every().map(short), |look_ups, code| {
+            refused(look_ups, code, 300, code.t() + 1);
+        });
+        let repaired = every().filter(|code| code.scattered >= 2);
+        look_up_missing_until_met("its own being lost", repaired, |look_ups, code| {
+            look_ups.add_repaired(&code);
+        });
+    }
+
+    #[test]
+    fn each_cause_of_each_kind_of_call_is_missing_until_it_was_met() {
+        let mut met = Met::default();
+        for (kind, cause) in Kind::ALL.into_iter().flat_map(refusals) {
+            let text = format!("{} was never refused with {cause}", kind.name());
+            assert!(met.missing().contains(&text));
+            met.add(kind, cause, None);
+            assert!(!met.missing().contains(&text));
+        }
+        assert!(refusals(Kind::LookUp).map(|(_, cause)| cause).eq([1, 2, 3, 8]));
+    }
+
+    #[test]
+    fn a_code_is_covered_with_every_verdict_of_a_look_up() {
+        let code = Settings::of_code(3, 2, 2);
+        for without in 17..=19 {
+            let mut met = Met::default();
+            for (kind, reply) in accepted(code_of(&code)) {
+                if (kind, reply) != (Kind::LookUp, without) {
+                    met.add(kind, reply, Some(code));
+                }
+            }
+            assert_eq!(covered(&met.codes), 0);
+            met.add(Kind::LookUp, without, Some(code));
+            assert_eq!(covered(&met.codes), 1);
+        }
+        // With T = 1 nothing behind slot t is known before the report, and nothing can clash.
+        assert!(!accepted((1, 1, 1)).contains(&(Kind::LookUp, 19)));
+        assert!(accepted((2, 1, 1)).contains(&(Kind::LookUp, 19)));
     }
 
     #[test]

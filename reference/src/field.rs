@@ -1,5 +1,7 @@
 //! "Two fields": the narrow numbers 0 to 15, and the bytes.
 
+use std::sync::OnceLock;
+
 /// A polynomial over two elements modulo z^4 + z + 1; bit i is the coefficient of z^i.
 #[derive(Clone, Copy, Debug, PartialEq, Eq)]
 pub struct Narrow(pub u8);
@@ -90,8 +92,16 @@ impl Byte {
         Byte(self.0 ^ other.0)
     }
 
-    /// (hα + l)(mα + r) = hm(α + 8) + (hr + lm)α + lr.
+    /// The product. Each is worked out once, and looked up from then on.
     pub fn times(self, other: Byte) -> Byte {
+        static PRODUCTS: OnceLock<Vec<Byte>> = OnceLock::new();
+        let products = PRODUCTS
+            .get_or_init(|| Byte::all().flat_map(|a| Byte::all().map(move |b| a.product(b))).collect());
+        products[256 * usize::from(self.0) + usize::from(other.0)]
+    }
+
+    /// (hα + l)(mα + r) = hm(α + 8) + (hr + lm)α + lr.
+    fn product(self, other: Byte) -> Byte {
         let ((h, l), (m, r)) = (self.parts(), other.parts());
         let high = h.times(m).plus(h.times(r)).plus(l.times(m));
         let low = h.times(m).times(Byte::EIGHT).plus(l.times(r));
@@ -122,6 +132,13 @@ mod tests {
     /// 0, and what lies outside the narrow numbers.
     fn narrows_without_reciprocal() -> impl Iterator<Item = Narrow> {
         (0..=0).chain(16..=255).map(Narrow)
+    }
+
+    #[test]
+    fn the_products_looked_up_are_those_of_the_rule() {
+        for a in Byte::all() {
+            assert!(Byte::all().all(|b| a.times(b) == a.product(b)), "{a:?}");
+        }
     }
 
     #[test]

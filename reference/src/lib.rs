@@ -1,5 +1,5 @@
-//! A plain reference of document 01, the tote broadcast, with what document 02 changed of it so
-//! far (§1 to §3, and §5): one module a section.
+//! A plain reference of document 01, the tote broadcast, with what document 02 changed of it and
+//! added to it so far (§1 to §3, §5 and §6): one module a section.
 //! It is written for reading beside the document, not for speed.
 
 #![forbid(unsafe_code)]

@@ -1,5 +1,5 @@
-//! The receiver: opening, the frame report, the loss report, and the verdict on the
-//! message that is then due (demand 2).
+//! The receiver: opening, the frame report, the loss report, the look-up (document 02 §6), and
+//! the verdict on a message (demand 2), which reports and look-ups share.
 
 use crate::field::Byte;
 use crate::frame::{self, body_length, message_length, place};
@@ -7,7 +7,7 @@ use crate::linear::{answer, Answer};
 use crate::matrix::Matrix;
 use crate::settings::Settings;
 use crate::state::{
-    check_length, check_opening_slot, check_settings, check_slot_due, refuse_if, row,
+    check_length, check_number, check_opening_slot, check_settings, check_slot_due, refuse_if, row,
     ReceiverState, Refusal,
 };
 
@@ -16,7 +16,8 @@ pub const RECEIVED: u8 = 1;
 /// The first byte of a row of zeros, which is a lost one.
 pub const LOST: u8 = 0;
 
-/// What an accepted report says of message t, when slot t + T is reported.
+/// What an accepted report says of message t, when slot t + T is reported. An accepted look-up
+/// says one of the last three.
 #[derive(Clone, Copy, Debug, PartialEq, Eq)]
 pub enum Reply {
     NoneYet,
@@ -84,7 +85,8 @@ pub fn report_frame(
     let row = &mut rows[row_of(&state.settings, state.slot())];
     row[0] = RECEIVED;
     row[1..].copy_from_slice(frame::body(frame));
-    (state.moved_on(), Ok(reply(&state, rows, message)))
+    let after = state.moved_on();
+    (after, Ok(reply(&after, rows, message)))
 }
 
 /// The slot due was not heard; a refused call leaves everything unchanged.
@@ -98,7 +100,20 @@ pub fn report_loss(
     }
     // A reported loss writes zeros over the whole row.
     rows[row_of(&state.settings, state.slot())].fill(0);
-    (state.moved_on(), Ok(reply(&state, rows, message)))
+    let after = state.moved_on();
+    (after, Ok(reply(&after, rows, message)))
+}
+
+/// What the slots reported so far say of a message whose last slot is still to come (document 02
+/// §6). The buffer is filled as at a report; a refused call leaves it unchanged.
+pub fn look_up(
+    state: ReceiverState,
+    rows: &[u8],
+    number: i64,
+    message: &mut [u8],
+) -> Result<Reply, Refusal> {
+    check_look_up(&state, rows, number, message)?;
+    Ok(verdict(&state, rows, number, message))
 }
 
 fn check_frame(
@@ -123,14 +138,34 @@ fn check_loss(state: &ReceiverState, rows: &[u8], message: &[u8]) -> Result<(), 
     check_slot_due(state.due)
 }
 
-/// The reply to the report of the slot due, already in its row. The buffer gets
-/// message t when whole; zeros for lost, clash and "none yet" (slot below T).
+fn check_look_up(
+    state: &ReceiverState,
+    rows: &[u8],
+    number: i64,
+    message: &[u8],
+) -> Result<(), Refusal> {
+    // 1, 2 and 3, as a loss report meets them.
+    check_loss(state, rows, message)?;
+    check_number(state, number)
+}
+
+/// The reply to a report that is in its row and has moved the slot due on: the verdict on the
+/// message T slots before the one reported. Where that is before slot 0 there is none yet.
 fn reply(state: &ReceiverState, rows: &[u8], message: &mut [u8]) -> Reply {
-    message.fill(0);
-    if state.slot() < state.settings.t() as i64 {
+    let reported = state.slot() - 1;
+    let number = reported - state.settings.t() as i64;
+    if number < 0 {
+        message.fill(0);
         return Reply::NoneYet;
     }
-    let answers = answers(state, rows);
+    verdict(state, rows, number, message)
+}
+
+/// What the slots below the slot due say of a message. The buffer gets the message when whole;
+/// zeros for lost and clash.
+fn verdict(state: &ReceiverState, rows: &[u8], number: i64, message: &mut [u8]) -> Reply {
+    message.fill(0);
+    let answers = answers(state, rows, number);
     if answers.contains(&Answer::Clash) {
         return Reply::Clash;
     }
@@ -145,29 +180,29 @@ fn reply(state: &ReceiverState, rows: &[u8], message: &mut [u8]) -> Reply {
     Reply::Whole
 }
 
-/// For each byte of message t, what the codeword that carries it says of it.
-fn answers(state: &ReceiverState, rows: &[u8]) -> Vec<Answer> {
+/// For each byte of a message, what the codeword that carries it says of it.
+fn answers(state: &ReceiverState, rows: &[u8], number: i64) -> Vec<Answer> {
     let settings = &state.settings;
     let matrix = Matrix::of(settings);
-    let t = state.slot() - settings.t() as i64;
     let mut answers = Vec::new();
     for i in 0..settings.k() {
         for lane in 0..settings.lanes as usize {
-            let arrived = arrived(state, rows, t - i as i64, lane);
+            let arrived = arrived(state, rows, number - i as i64, lane);
             answers.push(answer(&matrix, &arrived, i));
         }
     }
     answers
 }
 
-/// The symbols of the codeword starting at a slot, as far as they arrived by the slot due:
-/// symbol p travels in slot start + p, and what arrived is what the lent rows say.
+/// The symbols of the codeword starting at a slot, as far as they arrived: symbol p travels in
+/// slot start + p, and what arrived is what the lent rows say. From the slot due on the rows hold
+/// older slots, and nothing has arrived.
 fn arrived(state: &ReceiverState, rows: &[u8], start: i64, lane: usize) -> Vec<Option<Byte>> {
     let settings = &state.settings;
     let symbol = |p: usize| {
         let slot = start + p as i64;
         let row = &rows[row_of(settings, slot)];
-        let known = slot <= state.slot() && row[0] == RECEIVED;
+        let known = slot < state.slot() && row[0] == RECEIVED;
         known.then(|| Byte(row[1 + place(settings, p, lane)]))
     };
     (0..settings.n()).map(symbol).collect()

@@ -62,7 +62,8 @@ impl ReceiverState {
     }
 }
 
-/// The causes, in the order of checking: only an opening meets the last, behind the first two.
+/// The causes, by their numbers. A call meets its own in this order: an opening at a slot 1, 2 and
+/// 7, a look-up 1, 2, 3 and 8.
 #[derive(Clone, Copy, Debug, PartialEq, Eq)]
 pub enum Refusal {
     SettingsNotAccepted,
@@ -72,6 +73,7 @@ pub enum Refusal {
     OtherSettings,
     NotTheSlotDue,
     NoSlotToOpenAt,
+    NoMessageToLookUp,
 }
 
 impl Refusal {
@@ -85,6 +87,7 @@ impl Refusal {
             Refusal::OtherSettings => 5,
             Refusal::NotTheSlotDue => 6,
             Refusal::NoSlotToOpenAt => 7,
+            Refusal::NoMessageToLookUp => 8,
         }
     }
 }
@@ -112,6 +115,14 @@ pub fn check_slot_due(due: u32) -> Result<(), Refusal> {
 /// Cause 7, of document 02 §3.
 pub fn check_opening_slot(slot: u32) -> Result<(), Refusal> {
     refuse_if(slot >= END, Refusal::NoSlotToOpenAt)
+}
+
+/// Cause 8, of document 02 §6: a look-up is of the last T messages before the slot due, as far as
+/// they are 0 or above.
+pub fn check_number(state: &ReceiverState, number: i64) -> Result<(), Refusal> {
+    let due = state.slot();
+    let first = (due - state.settings.t() as i64).max(0);
+    refuse_if(number < first || number >= due, Refusal::NoMessageToLookUp)
 }
 
 /// The bytes of the row of a slot: row slot mod count, the remainder from 0 up.

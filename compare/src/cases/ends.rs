@@ -76,4 +76,10 @@ impl Ends {
             None => Call::lost(state, rows, buffer),
         }
     }
+
+    /// The look-up of a message by its number.
+    pub fn look_up(&self, draws: &mut Draws, number: i64) -> Call {
+        let End { state, rows } = &self.receiver;
+        Call::look_up(state.clone(), rows.clone(), number, self.message(draws))
+    }
 }

@@ -6,23 +6,33 @@ use reference::settings::Settings;
 use reference::state::END;
 
 use super::bounds;
+use super::look_ups::{far_number, out_of_reach};
 use crate::call::{Call, Kind};
 use crate::draw::Draws;
-use crate::model::{bytes_of, settings_of, DUE, RECEIVER, SENDER, STATE};
+use crate::model::{bytes_of, receiver_of, settings_of, DUE, RECEIVER, SENDER, STATE};
 
-type Fault = fn(&mut Draws, &mut Call);
+pub type Fault = fn(&mut Draws, &mut Call);
 
 /// Those of calls that start from a state.
 const OF_STATE: [Fault; 8] =
     [length, mark, other_kind, state_byte, settings, window, same_delay, due];
 const OF_FRAME: [Fault; 4] = [frame_mark, frame_settings, frame_slot, frame_header];
+const OF_NUMBER: [Fault; 2] = [number; 2];
+
+/// A fault for each cause of a look-up, in the order of checking.
+pub const OF_LOOK_UP: [(u32, Fault); 4] =
+    [(1, narrow_window), (2, wrong_length), (3, due_or_end), (8, number)];
 
 /// The call with one to three faults.
 pub fn faulty(draws: &mut Draws, call: &Call) -> Call {
     let mut call = call.clone();
-    let frames: &[Fault] = if call.kind == Kind::Heard { &OF_FRAME } else { &[] };
+    let own: &[Fault] = match call.kind {
+        Kind::Heard => &OF_FRAME,
+        Kind::LookUp => &OF_NUMBER,
+        _ => &[],
+    };
     let lengths: &[Fault] = &[wrong_length, wrong_length, due, at_end];
-    let faults = [&OF_STATE[..], frames, frames, lengths].concat();
+    let faults = [&OF_STATE[..], own, own, lengths].concat();
     for _ in 0..draws.one_of(&[1, 1, 1, 2, 2, 3]) {
         draws.one_of(&faults)(draws, &mut call);
     }
@@ -34,7 +44,11 @@ pub fn other_length(draws: &mut Draws, exact: usize) -> usize {
     let any = draws.below(exact + 20);
     let shorter = exact.saturating_sub(1);
     let other = draws.one_of(&[0, shorter, exact + 1, exact / 2, 2 * exact, exact + HEADER, any]);
-    if other == exact { exact + 1 } else { other }
+    if other == exact {
+        exact + 1
+    } else {
+        other
+    }
 }
 
 fn resize(draws: &mut Draws, thing: &mut Vec<u8>) {
@@ -49,9 +63,11 @@ fn length(draws: &mut Draws, call: &mut Call) {
     resize(draws, call.thing("state"));
 }
 
-/// One of the lent things other than the state has another length.
+/// One of the lent things other than the state has another length. A number has but one.
 fn wrong_length(draws: &mut Draws, call: &mut Call) {
-    let place = 1 + draws.below(call.things.len() - 1);
+    let names = call.kind.things();
+    let places: Vec<usize> = (1..names.len()).filter(|&place| names[place] != "number").collect();
+    let place = draws.one_of(&places);
     resize(draws, &mut call.things[place]);
 }
 
@@ -100,6 +116,13 @@ fn window(draws: &mut Draws, call: &mut Call) {
     }
 }
 
+/// The state's window makes the delay B − 1, which is never accepted.
+fn narrow_window(_: &mut Draws, call: &mut Call) {
+    if let Some(settings) = settings_of_state(call) {
+        settings[0] = settings[2];
+    }
+}
+
 /// The state's W and T become others that make the same delay: every length is still theirs, and
 /// only a frame is refused, which has the old ones.
 fn same_delay(draws: &mut Draws, call: &mut Call) {
@@ -132,10 +155,24 @@ fn at_end(_: &mut Draws, call: &mut Call) {
     set_due(call, END);
 }
 
+/// One of the two.
+fn due_or_end(draws: &mut Draws, call: &mut Call) {
+    draws.one_of(&[due, at_end])(draws, call);
+}
+
 fn set_due(call: &mut Call, due: u32) {
     if let Some(bytes) = call.thing("state").get_mut(DUE) {
         bytes.copy_from_slice(&due.to_be_bytes());
     }
+}
+
+/// The number is out of reach; it is a far one where no state tells what that is.
+fn number(draws: &mut Draws, call: &mut Call) {
+    let number = match receiver_of(call.thing("state")) {
+        Ok(state) => out_of_reach(draws, &state.settings, state.due),
+        Err(_) => far_number(draws, 0),
+    };
+    call.thing("number").copy_from_slice(&number.to_be_bytes());
 }
 
 fn frame_mark(draws: &mut Draws, call: &mut Call) {
@@ -180,6 +217,23 @@ mod tests {
         let mut call = Call::lost(state, vec![0; rows], vec![0; message]);
         fault(draws, &mut call);
         by_reference(call.kind, &mut call.things)
+    }
+
+    #[test]
+    fn each_fault_of_a_look_up_is_refused_for_its_cause() {
+        let mut draws = Draws::of_case(1, 9);
+        for code in every_code() {
+            let settings = crate::cases::settings(&mut draws, &code, 1);
+            let state = receiver_bytes(&ReceiverState { settings, opened_at: 0, due: 5 });
+            let [message, .., rows] = lengths(&settings);
+            let look_up = Call::look_up(state, vec![0; rows], 4, vec![0; message]);
+            for (cause, fault) in OF_LOOK_UP {
+                let mut call = look_up.clone();
+                fault(&mut draws, &mut call);
+                assert_eq!(call.thing("number").len(), 8);
+                assert_eq!(by_reference(call.kind, &mut call.things), cause, "{settings:?}");
+            }
+        }
     }
 
     #[test]

@@ -58,6 +58,10 @@ impl History {
         History { settings, due, bodies }
     }
 
+    pub fn settings(&self) -> &Settings {
+        &self.settings
+    }
+
     /// The receiver's rows at the slot due, all received.
     fn rows(&self) -> Vec<u8> {
         let (count, one) = (row_count(&self.settings), row_length(&self.settings));

@@ -1,23 +1,28 @@
 //! Rows handed in: calls that start from a state written by hand, anywhere in the range of slots.
 //! The sender's rows are any bytes; the receiver's are any, or a true history with losses and damage.
+//! In all of them the row of the slot due is of an older slot.
 
 use reference::frame::HEADER;
 use reference::receiver::row_count;
 use reference::settings::{every_code, Settings};
 use reference::state::{ReceiverState, SenderState, END};
 
+use super::ends::End;
 use super::history::{Change, History};
-use crate::call::Call;
+use super::look_ups::{self, some_numbers};
+use crate::call::{number_of, Call};
 use crate::comparison::{Comparison, Difference};
 use crate::draw::Draws;
 use crate::model::{
-    lengths, receiver_bytes, sender_bytes, STATE, UNREAD_OF_RECEIVER, UNREAD_OF_SENDER,
+    lengths, receiver_bytes, sender_bytes, DUE, STATE, UNREAD_OF_RECEIVER, UNREAD_OF_SENDER,
 };
 
 /// Cases with few lanes for each code; one more has 16 lanes, and one 64.
 const EACH: usize = 8;
 /// Slots of a case with few lanes.
 const SLOTS: usize = 4;
+/// The most that are few.
+const FEW: u8 = 8;
 
 /// The changes of the receiver's rows, by how often they are made.
 const CHANGES: [Change; 8] = [
@@ -47,6 +52,7 @@ pub fn run(comparison: &mut Comparison) -> Result<(), Difference> {
             let start = ReceiverState { settings, opened_at, due };
             reports(comparison, &mut draws, start, slots)?;
         }
+        an_older_ring(comparison, code)?;
     }
     Ok(())
 }
@@ -105,7 +111,8 @@ fn sends(
     Ok(())
 }
 
-/// Reports over a history with some change, one after the other.
+/// Reports over a history with some change, one after the other, and look-ups before each. Those of
+/// many lanes take the reference long, and are made behind the last report alone.
 fn reports(
     comparison: &mut Comparison,
     draws: &mut Draws,
@@ -115,22 +122,63 @@ fn reports(
     let settings = start.settings;
     let history = History::drawn(draws, settings, start.due, slots);
     let change = draws.one_of(&CHANGES);
-    let mut rows = history.changed_rows(draws, change);
-    let mut state = any_receiver_bytes(draws, &start);
-    for step in 0..slots as u32 {
-        let buffer = draws.bytes(lengths(&settings)[0]);
-        let mut call = if draws.once_in(2) {
-            let mut frame = history.frame(start.due + step);
-            if draws.once_in(8) {
-                let place = HEADER + draws.below(frame.len() - HEADER);
-                draws.change(&mut frame[place]);
-            }
-            Call::heard(state, rows, frame, buffer)
-        } else {
-            Call::lost(state, rows, buffer)
-        };
+    let rows = history.changed_rows(draws, change);
+    let mut receiver = End { state: any_receiver_bytes(draws, &start), rows };
+    for slot in (start.due..).take(slots) {
+        if settings.lanes <= FEW {
+            look_ups(comparison, draws, &settings, &receiver)?;
+        }
+        let mut call = report(draws, &history, receiver, slot);
         comparison.call(&mut call)?;
-        (state, rows) = (call.take("state"), call.take("rows"));
+        receiver = End::left_by(&mut call);
+    }
+    look_ups(comparison, draws, &settings, &receiver)
+}
+
+/// The report of a slot: its frame, which may be damaged, or a loss.
+fn report(draws: &mut Draws, history: &History, receiver: End, slot: u32) -> Call {
+    let buffer = draws.bytes(lengths(history.settings())[0]);
+    if draws.once_in(2) {
+        return Call::lost(receiver.state, receiver.rows, buffer);
+    }
+    let mut frame = history.frame(slot);
+    if draws.once_in(8) {
+        let place = HEADER + draws.below(frame.len() - HEADER);
+        draws.change(&mut frame[place]);
+    }
+    Call::heard(receiver.state, receiver.rows, frame, buffer)
+}
+
+/// Look-ups of a number in reach, of those beside it and of far ones.
+fn look_ups(
+    comparison: &mut Comparison,
+    draws: &mut Draws,
+    settings: &Settings,
+    receiver: &End,
+) -> Result<(), Difference> {
+    let numbers = some_numbers(draws, settings, number_of(&receiver.state[DUE]), 1);
+    look_ups::over(comparison, draws, settings, receiver, &numbers)
+}
+
+/// All rows are received, and then losses are reported: no old row tells of their messages.
+fn an_older_ring(comparison: &mut Comparison, code: Settings) -> Result<(), Difference> {
+    let mut draws = comparison.case("rows handed in");
+    let settings = super::settings(&mut draws, &code, 1);
+    let first = due(&mut draws, &settings).min(END - 4);
+    let rows =
+        History::drawn(&mut draws, settings, first, 0).changed_rows(&mut draws, Change::True);
+    let start = ReceiverState { settings, opened_at: 0, due: first };
+    let mut receiver = End { state: any_receiver_bytes(&mut draws, &start), rows };
+    for slot in (first..).take(3) {
+        let buffer = draws.bytes(lengths(&settings)[0]);
+        let mut call = Call::lost(receiver.state, receiver.rows, buffer.clone());
+        comparison.call(&mut call)?;
+        receiver = End::left_by(&mut call);
+        let End { state, rows } = &receiver;
+        let mut call = Call::look_up(state.clone(), rows.clone(), slot.into(), buffer);
+        if comparison.call(&mut call)? != 18 {
+            return Err(comparison.failed(&format!("message {slot} is told by an older row")));
+        }
     }
     Ok(())
 }

@@ -1,10 +1,12 @@
 //! Twins: ends whose window alone makes the delay, beside ends with T set to that delay (document
 //! 02 §5). Their frames and states are alike but for the byte of T, each receiver refuses the
-//! other's frame, and both hand out the same messages.
+//! other's frame, and both hand out the same messages, in reports and in look-ups.
 
 use reference::settings::{every_code, Settings};
 
 use super::ends::{End, Ends};
+use super::laws::{Known, Said};
+use super::look_ups::some_numbers;
 use crate::comparison::{Comparison, Difference};
 use crate::draw::Draws;
 use crate::report::Promise;
@@ -32,6 +34,9 @@ struct Twins<'a> {
     comparison: &'a mut Comparison,
     draws: &'a mut Draws,
     ends: [Ends; 2],
+    /// The messages sent, and those that look-ups have told.
+    messages: Vec<Vec<u8>>,
+    known: Known,
 }
 
 impl<'a> Twins<'a> {
@@ -43,25 +48,27 @@ impl<'a> Twins<'a> {
         let twin = Settings { delay: settings.t() as u8, ..settings };
         let mut open = |settings| Ends::opened(comparison, draws, settings, 0);
         let ends = [open(settings)?, open(twin)?];
-        Ok(Twins { comparison, draws, ends })
+        Ok(Twins { comparison, draws, ends, messages: Vec::new(), known: Known::default() })
     }
 
-    /// A send and a report for each slot, with so many bursts. Every message is promised.
+    /// A send, a report and look-ups for each slot, with so many bursts. Every message is promised.
     fn play(&mut self, count: usize) -> Result<(), Difference> {
         let settings = self.ends[0].settings;
         let lost = bursts(self.draws, &settings, count);
-        let mut messages = Vec::new();
         for (slot, &is_lost) in lost.iter().enumerate() {
-            messages.push(self.ends[0].message(self.draws));
-            let frames = self.send(&messages[slot])?;
+            let message = self.ends[0].message(self.draws);
+            let frames = self.send(&message)?;
+            self.messages.push(message);
             if slot == 0 || self.draws.once_in(4) {
                 self.refuse(&frames)?;
             }
             let (reply, message) = self.report(frames, is_lost)?;
+            self.look_ups(slot as u32 + 1)?;
             let Some(t) = slot.checked_sub(settings.t()) else {
                 continue;
             };
-            self.check(reply == 17 && message == messages[t], "a message is not whole, as sent")?;
+            let as_sent = reply == 17 && message == self.messages[t];
+            self.check(as_sent, "a message is not whole, as sent")?;
             let promise = Promise { recovered: lost[t], ..Promise::default() };
             self.ends.iter().for_each(|e| self.comparison.met.add_promised(&e.settings, promise));
         }
@@ -106,6 +113,42 @@ impl<'a> Twins<'a> {
         self.check(said[0] == said[1], "the reports of twins differ")?;
         self.check_kept(|ends| &ends.receiver)?;
         Ok(said.remove(0))
+    }
+
+    /// Look-ups of the same numbers by each, one of them in reach: both say the same.
+    fn look_ups(&mut self, due: u32) -> Result<(), Difference> {
+        let settings = self.ends[0].settings;
+        for number in some_numbers(self.draws, &settings, due, 1) {
+            let mut said = Vec::new();
+            for ends in &self.ends {
+                let mut call = ends.look_up(self.draws, number);
+                let reply = self.comparison.call(&mut call)?;
+                said.push((reply, (reply >= 17).then(|| call.take("message"))));
+            }
+            self.check(said[0] == said[1], "the look-ups of twins differ")?;
+            if let (reply, Some(bytes)) = &said[0] {
+                self.check_look_up(due, number, *reply, bytes)?;
+            }
+        }
+        Ok(())
+    }
+
+    /// The laws of look-ups.
+    fn check_look_up(
+        &mut self,
+        due: u32,
+        number: i64,
+        reply: u32,
+        bytes: &[u8],
+    ) -> Result<(), Difference> {
+        let said = Said { number, reply, bytes, sent: &self.messages[number as usize] };
+        if let Some(text) = self.known.against(&said) {
+            return Err(self.comparison.failed(&text));
+        }
+        if reply == 17 {
+            self.known.add(number, due);
+        }
+        Ok(())
     }
 
     /// What the same end of both keeps is alike but for T.

@@ -1,9 +1,12 @@
-//! For every code, rows for which each reply of a report is due: a frame report and a loss report each.
+//! For every code, rows for which each reply of a report is due: a frame report, a loss report and
+//! look-ups each.
 
 use reference::settings::{every_code, Settings};
 use reference::state::ReceiverState;
 
+use super::ends::End;
 use super::history::{Change, History};
+use super::look_ups::{self, any_in_reach, in_reach};
 use super::rows::{any_receiver_bytes, opened_at};
 use crate::call::Call;
 use crate::comparison::{Comparison, Difference};
@@ -37,14 +40,15 @@ fn every_change(
     for due in [below, above] {
         for change in CHANGES {
             let opened_at = opened_at(draws, due);
-            both(comparison, draws, ReceiverState { settings, opened_at, due }, change)?;
+            each(comparison, draws, ReceiverState { settings, opened_at, due }, change)?;
         }
     }
     Ok(())
 }
 
-/// The two reports of the slot due, over the same rows.
-fn both(
+/// The two reports of the slot due, and look-ups of the first number in reach and of one more, over
+/// the same rows.
+fn each(
     comparison: &mut Comparison,
     draws: &mut Draws,
     state: ReceiverState,
@@ -54,7 +58,13 @@ fn both(
     let rows = history.changed_rows(draws, change);
     let buffer = draws.bytes(lengths(&state.settings)[0]);
     let frame = history.frame(state.due);
-    let state = any_receiver_bytes(draws, &state);
+    let reach = in_reach(&state.settings, state.due);
+    let receiver = End { state: any_receiver_bytes(draws, &state), rows };
+    if !reach.is_empty() {
+        let numbers = [reach.start, any_in_reach(draws, &reach)];
+        look_ups::over(comparison, draws, &state.settings, &receiver, &numbers)?;
+    }
+    let End { state, rows } = receiver;
     comparison.call(&mut Call::lost(state.clone(), rows.clone(), buffer.clone()))?;
     comparison.call(&mut Call::heard(state, rows, frame, buffer))?;
     Ok(())

@@ -77,6 +77,7 @@ pub fn number_of(c: Cause) -> u32
         Cause::OtherSettings => 5,
         Cause::OtherSlot => 6,
         Cause::LateOpening => 7,
+        Cause::OutOfReach => 8,
     }
 }
 

@@ -32,7 +32,7 @@ sentBy s calls =
     sends (opened .sender) (opened .rows) calls
 
 -- numbers below 256 are bytes
-small-bytes : (l : List ℕ) → T (small l) → Bytes l
+pub small-bytes : (l : List ℕ) → T (small l) → Bytes l
 unfolding small
 small-bytes [] t = tt
 small-bytes (x ∷ l) t = (ltb→lt x 256 (and-left (ltb x 256) (small l) t), small-bytes l (and-right (ltb x 256) (small l) t))
@@ -70,7 +70,7 @@ same-slot (c ∷ cs) (q ∷ rs) step r h =
     (λ later. let found = same-slot cs rs (step .1) r later in (found .0, List·Memᴰ·tail (found .1), found .2)) (List·Memᴰ·cases-cons h)
 
 -- so a frame that is reported is the one that was handed out for the slot, where the reports begin after some sends
-own-frame : (sent : List SendMade) (slot : ℕ) (told : List ReportMade) → InStep (drop slot sent) told
+pub own-frame : (sent : List SendMade) (slot : ℕ) (told : List ReportMade) → InStep (drop slot sent) told
     → (r : ReportMade) (f m : List ℕ) → List·Memᴰ r told → r .call ≡ heard f m
     → (message : List ℕ) × SentAs sent (r .before .due) message f
 own-frame sent slot told step r f m listed e =

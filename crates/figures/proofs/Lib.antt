@@ -6,3 +6,4 @@ pub mod FigureTen
 pub mod Fade
 pub mod Late
 pub mod ShortWindow
+pub mod Known

@@ -2,7 +2,7 @@
 use mathlib.Core.Path.{_≡_, refl, sym, ap, _∙_}
 use mathlib.Core.Bool.{true, false}
 use Rattle.protocol.specs.declared.Cause.{Cause}
-use Rattle.protocol.specs.declared.Cause.the-variants.{BadSettings, BadLength, PastLastSlot, OtherMark, OtherSettings, OtherSlot, LateOpening}
+use Rattle.protocol.specs.declared.Cause.the-variants.{BadSettings, BadLength, PastLastSlot, OtherMark, OtherSettings, OtherSlot, LateOpening, OutOfReach}
 use Rattle.protocol.specs.declared.Answer.{Answer}
 use Rattle.protocol.specs.declared.Answer.the-variants as answer
 use Rattle.protocol.specs.declared.Reply.{Reply}
@@ -21,6 +21,7 @@ cause-refused OtherMark = refl
 cause-refused OtherSettings = refl
 cause-refused OtherSlot = refl
 cause-refused LateOpening = refl
+cause-refused OutOfReach = refl
 
 -- of a report's, those that are no refusal
 pub reply-accepted : (r : Reply) → acceptance (replyNumber r) ≡ accepts r

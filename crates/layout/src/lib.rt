@@ -4,5 +4,6 @@ mod numbers;
 mod outcomes;
 
 pub use lengths::or_zero;
+pub use numbers::reply_number;
 pub use outcomes::save_answer;
 pub use outcomes::save_reply;

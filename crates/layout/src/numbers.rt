@@ -16,8 +16,8 @@ pub(crate) fn answer_number(answer: Answer) -> u32
     }
 }
 
-// The number of what a report answers.
-pub(crate) fn reply_number(reply: Reply) -> u32
+// The number of what a report or a look-up answers.
+pub fn reply_number(reply: Reply) -> u32
     ensures { λ r. ⌜ r ≡ replyNumber reply ⌝ }
 {
     match reply {

@@ -1,10 +1,11 @@
 -- What a call reads is what the call before it wrote, so a list of the library's calls is protocol's, call by call.
 use mathlib.Core.Path.{_≡_, refl, sym, ap, _∙_, subst, subst⁻¹}
 use mathlib.Core.Bool.{Bool, true, cond}
-use mathlib.Core.List.{List, [], _∷_, Forall₂, Forall₂·nil, Forall₂·cons}
+use mathlib.Core.List.{List, [], _∷_, map, Forall₂, Forall₂·nil, Forall₂·cons}
 use native.Mathlib.Omega.{arith}
 use Prim.Native.Nat.{ℕ, _+_, _≤_}
 use lib.Dec.{T}
+use lib.IntN.{ℤ}
 use lib.ListN.{length, drop}
 use Rattle.galois.proofs.Cases.{is-true}
 use Rattle.code.specs.declared.settings.Settings.{Settings}
@@ -18,6 +19,7 @@ use Rattle.protocol.specs.Causes.{lossCause, frameCause}
 use Rattle.protocol.specs.Lengths.{lastSlot, senderLen}
 use Rattle.protocol.specs.States.{openedSender, sentOn, openedReceiver, reportedOn}
 use Rattle.protocol.specs.Calls.{OpenedSender, OpenedReceiver, Sent, Reported, openSenderOf, openReceiverOf, sendOf, movedOn, lossOf, heardOf}
+use Rattle.protocol.specs.Calls.{lookUpOf}
 use Rattle.protocol.specs.Histories.{accepts}
 use Rattle.protocol.specs.TwoLists.{Send, SendMade, sends, Report, heard, missed, reportOf, ReportMade, reports}
 use Rattle.protocol.proofs.CauseTables.{open-clear, OpensAt}
@@ -26,15 +28,21 @@ use Rattle.protocol.proofs.ReportCauses.{loss-open, frame-open}
 use Rattle.protocol.proofs.ReportRows.{moved-accepts}
 use Rattle.protocol.proofs.ReportSteps as steps
 use Rattle.protocol.proofs.ReportChain as reporting
+use Rattle.early.specs.Mixed.{Call, report, lookUp, CallMade, calls, reportsIn}
+use Rattle.early.specs.Early.{reportedTo}
+use Rattle.early.proofs.Lists.{without-look-ups}
 use Rattle.frames.specs.Fields.{settingsAt}
 use Rattle.state.specs.State.{senderEnd, receiverEnd, senderBytes, receiverBytes, saved, stateLen, senderIn, receiverIn, stateCause}
 use Rattle.protocol.specs.Numbers.{answerNumber, replyNumber}
 use Rattle.state.proofs.KeptStates.{state-uncaused, sender-in-state, receiver-in-state}
 use Rattle.layout.proofs.Refusals.{cause-refused, reply-accepted}
 use Rattle.library.specs.Calls.{settingsOf, Opening, openSenderBytes, openReceiverBytes, Sending, sendBytes, Reporting}
+use Rattle.library.specs.Calls.{Looking, lookedBytes, lookUpBytes}
 use Rattle.library.specs.Chains.{dueAfter, SendDone, sendsBytes, reportBytes, ReportDone, reportsBytes}
+use Rattle.library.specs.Chains.{dueAfterCall, CallDone, callsBytes, reportsInBytes}
+use Rattle.library.specs.Early.{reportedToBytes}
 use Rattle.library.proofs.Outcomes.{sender-uncaused, receiver-uncaused}
-use Rattle.library.proofs.Outcomes.{sendLeft, send-uncaused, reportLeft, heard-uncaused, lost-uncaused}
+use Rattle.library.proofs.Outcomes.{sendLeft, send-uncaused, reportLeft, heard-uncaused, lost-uncaused, look-up-uncaused}
 
 -- the bytes are a state of this end, and keep x
 pub record Keeps {X : Type 0} (end : ℕ) (read : List ℕ → X) (state : List ℕ) (x : X) : Type 0 where
@@ -51,7 +59,7 @@ kept-sender : (x : Sender) → x .due ≤ lastSlot + 1 → KeepsSender (senderBy
 kept-sender x few = record { uncaused = state-uncaused senderEnd (x .settings) (x .due) 0; reads = sender-in-state x few }
 
 -- an opening with accepted settings and exact lengths replies 0, and the next call reads the sender that it opened
-pub opened-sender-read : (settings state rows : List ℕ) → T (accepted (settingsOf settings)) → length state ≡ stateLen
+opened-sender-read : (settings state rows : List ℕ) → T (accepted (settingsOf settings)) → length state ≡ stateLen
     → length rows ≡ senderLen (settingsOf settings)
     → let b : Opening = openSenderBytes settings state rows in
     let r : OpenedSender = openSenderOf (settingsOf settings) rows in
@@ -100,7 +108,7 @@ pub record SameSend (m : SendMade) (b : SendDone) : Type 0 where
   pub frame : b .after .frame ≡ m .after .frame
 
 -- so a list of sends is protocol's
-pub sends-read : (calls : List Send) (due : ℕ) (state rows : List ℕ) (x : Sender) → KeepsSender state x → x .due ≡ due
+sends-read : (calls : List Send) (due : ℕ) (state rows : List ℕ) (x : Sender) → KeepsSender state x → x .due ≡ due
     → Forall₂ SameSend (sends x rows calls) (sendsBytes due state rows calls)
 unfolding sendsBytes sends
 sends-read [] due state rows x k e = Forall₂·nil
@@ -138,7 +146,7 @@ kept-receiver y begun few = record {
 }
 
 -- an opening with accepted settings and exact lengths replies 0, and the next call reads the receiver that it opened
-pub opened-receiver-read : (settings : List ℕ) (slot : ℕ) (state rows : List ℕ) → OpensAt (settingsOf settings) slot rows
+opened-receiver-read : (settings : List ℕ) (slot : ℕ) (state rows : List ℕ) → OpensAt (settingsOf settings) slot rows
     → length state ≡ stateLen
     → let b : Opening = openReceiverBytes settings slot state rows in
     let r : OpenedReceiver = openReceiverOf (settingsOf settings) slot rows in
@@ -150,7 +158,7 @@ opened-receiver-read settings slot state rows opens room =
     (refl, refl, kept-receiver (openedReceiver s slot) (opens .in-time) (omega (arith, opens .in-time)))
 
 -- a report by the library: what it leaves, the receiver that the next call reads, and the slot due then
-pub record ReportStep (state rows : List ℕ) (call : Report) (y : Receiver) : Type 0 where
+record ReportStep (state rows : List ℕ) (call : Report) (y : Receiver) : Type 0 where
   pub same : reportBytes state rows call ≡ reportLeft state (reportOf y rows call)
   pub next : KeepsReceiver (reportBytes state rows call .state) (reportOf y rows call .receiver)
   pub due : reportOf y rows call .receiver .due ≡ dueAfter (y .due) (reportBytes state rows call .reply)
@@ -207,7 +215,7 @@ module _ (state rows : List ℕ) (none : stateCause receiverEnd state ≡ answer
       let next = report-next call in
       record { same = same; next = rw same (next .0); due = rw same (next .1) }
 
-pub report-step : (state rows : List ℕ) (call : Report) (y : Receiver) → KeepsReceiver state y → ReportStep state rows call y
+report-step : (state rows : List ℕ) (call : Report) (y : Receiver) → KeepsReceiver state y → ReportStep state rows call y
 report-step state rows call y k =
     let same = k .keeps .reads in
     subst (ReportStep state rows call) same
@@ -220,24 +228,115 @@ pub record SameReport (m : ReportMade) (b : ReportDone) : Type 0 where
   pub reply : b .after .reply ≡ replyNumber (m .after .reply)
   pub message : b .after .message ≡ m .after .message
 
--- so a list of reports is protocol's
-pub reports-read : (calls : List Report) (due : ℕ) (state rows : List ℕ) (y : Receiver) → KeepsReceiver state y → y .due ≡ due
-    → Forall₂ SameReport (reports y rows calls) (reportsBytes due state rows calls)
-unfolding reportsBytes reports
-reports-read [] due state rows y k e = Forall₂·nil
-reports-read (c ∷ cs) due state rows y k e =
+-- ---- reports and look-ups
+
+-- the library's call and protocol's: for the same slot, with the same call, alike in what the caller sees, and with the same slot due next
+pub record SameCall (m : CallMade) (b : CallDone) : Type 0 where
+  pub due : b .due ≡ m .before .due
+  pub call : b .call ≡ m .call
+  pub reply : b .after .reply ≡ replyNumber (m .after .reply)
+  pub message : b .after .message ≡ m .after .message
+  pub next : reportedToBytes b ≡ reportedTo m
+
+-- call by call, and so the reports among them
+pub record SameCalls (made : List CallMade) (done : List CallDone) : Type 0 where
+  pub each : Forall₂ SameCall made done
+  pub told : Forall₂ SameReport (reportsIn made) (reportsInBytes done)
+
+-- a look-up by the library is protocol's on the receiver that its bytes keep
+looked-same : (state rows : List ℕ) (number : ℤ) (message : List ℕ) (y : Receiver) → KeepsReceiver state y
+    → lookUpBytes state rows number message ≡ lookedBytes (lookUpOf y rows number message)
+looked-same state rows number message y k =
+    sym (look-up-uncaused state rows message number (k .keeps .uncaused))
+    ∙ ap (λ (z : Receiver). lookedBytes (lookUpOf z rows number message)) (k .keeps .reads)
+
+-- so a list of calls is protocol's
+pub calls-read : (cs : List Call) (due : ℕ) (state rows : List ℕ) (y : Receiver) → KeepsReceiver state y → y .due ≡ due
+    → SameCalls (calls y rows cs) (callsBytes due state rows cs)
+unfolding calls callsBytes reportsIn reportsInBytes
+calls-read [] due state rows y k e = record { each = Forall₂·nil; told = Forall₂·nil }
+calls-read (report c ∷ cs) due state rows y k e =
     let b : Reporting = reportBytes state rows c in
     let r : Reported = reportOf y rows c in
     let step = report-step state rows c y k in
-    Forall₂·cons
-    (record {
-      due = sym e;
-      call = refl;
-      reply = ap (λ (z : Reporting). z .reply) (step .same);
-      message = ap (λ (z : Reporting). z .message) (step .same);
-    })
-    (subst
-    (λ (rest : List ℕ). Forall₂ SameReport (reports (r .receiver) rest cs) (reportsBytes (dueAfter due (b .reply)) (b .state) (b .rows) cs))
+    let next : dueAfterCall due (report c) (b .reply) ≡ r .receiver .due
+    = sym (step .due ∙ ap (λ (d : ℕ). dueAfterCall d (report c) (b .reply)) e) in
+    let later : SameCalls (calls (r .receiver) (r .rows) cs) (callsBytes (dueAfterCall due (report c) (b .reply)) (b .state) (b .rows) cs)
+    = subst (λ (l : List ℕ). SameCalls (calls (r .receiver) l cs) (callsBytes (dueAfterCall due (report c) (b .reply)) (b .state) (b .rows) cs))
     (ap (λ (z : Reporting). z .rows) (step .same))
-    (reports-read cs (dueAfter due (b .reply)) (b .state) (b .rows) (r .receiver) (step .next)
-    (step .due ∙ ap (λ (d : ℕ). dueAfter d (b .reply)) e)))
+    (calls-read cs (dueAfterCall due (report c) (b .reply)) (b .state) (b .rows) (r .receiver) (step .next) (sym next)) in
+    let said = ap (λ (z : Reporting). z .reply) (step .same) in
+    let holds = ap (λ (z : Reporting). z .message) (step .same) in
+    record {
+      each = Forall₂·cons (record { due = sym e; call = refl; reply = said; message = holds; next = next }) (later .each);
+      told = Forall₂·cons (record { due = sym e; call = refl; reply = said; message = holds }) (later .told);
+    }
+calls-read (lookUp number message ∷ cs) due state rows y k e =
+    let same = looked-same state rows number message y k in
+    let later : SameCalls (calls y rows cs) (callsBytes due state rows cs) = calls-read cs due state rows y k e in
+    record {
+      each = Forall₂·cons
+          (record {
+            due = sym e;
+            call = refl;
+            reply = ap (λ (z : Looking). z .reply) same;
+            message = ap (λ (z : Looking). z .message) same;
+            next = sym e;
+          })
+          (later .each);
+      told = later .told;
+    }
+
+-- a list of reports is one without look-ups
+alone : (cs : List Report) (due : ℕ) (state rows : List ℕ) → reportsInBytes (callsBytes due state rows (map report cs)) ≡ reportsBytes due state rows cs
+unfolding callsBytes reportsInBytes reportsBytes
+alone [] due state rows = refl
+alone (c ∷ cs) due state rows =
+    let b : Reporting = reportBytes state rows c in
+    ap (λ (rest : List ReportDone). record { due = due; call = c; after = b } ∷ rest) (alone cs (dueAfter due (b .reply)) (b .state) (b .rows))
+
+-- ---- after the openings
+
+module _ (settings : List ℕ) (ok : T (accepted (settingsOf settings))) (state : List ℕ) (room : length state ≡ stateLen) (rows : List ℕ) where
+  abbrev settled : Settings
+  settled = settingsOf settings
+
+  -- the sends are protocol's
+  pub sends-opened : length rows ≡ senderLen settled → (cs : List Send)
+      → let b : Opening = openSenderBytes settings state rows in
+      let r : OpenedSender = openSenderOf settled rows in
+      (b .reply ≡ 0) × Forall₂ SameSend (sends (r .sender) (r .rows) cs) (sendsBytes 0 (b .state) (b .rows) cs)
+  sends-opened full cs =
+      let b : Opening = openSenderBytes settings state rows in
+      let x : Sender = openSenderOf settled rows .sender in
+      let (reply, same, keeps) = opened-sender-read settings state rows ok room full in (
+        reply,
+        subst (λ (l : List ℕ). Forall₂ SameSend (sends x l cs) (sendsBytes 0 (b .state) (b .rows) cs)) same
+            (sends-read cs 0 (b .state) (b .rows) x keeps
+            (ap (λ (r : OpenedSender). r .sender .due) (sending.opened-sender settled rows ok full))),
+      )
+
+  -- and so are the reports and look-ups
+  pub calls-opened : (slot : ℕ) → OpensAt settled slot rows → (cs : List Call)
+      → let b : Opening = openReceiverBytes settings slot state rows in
+      let r : OpenedReceiver = openReceiverOf settled slot rows in
+      (b .reply ≡ 0) × SameCalls (calls (r .receiver) (r .rows) cs) (callsBytes slot (b .state) (b .rows) cs)
+  calls-opened slot opens cs =
+      let b : Opening = openReceiverBytes settings slot state rows in
+      let y : Receiver = openReceiverOf settled slot rows .receiver in
+      let (reply, same, keeps) = opened-receiver-read settings slot state rows opens room in (
+        reply,
+        subst (λ (l : List ℕ). SameCalls (calls y l cs) (callsBytes slot (b .state) (b .rows) cs)) same
+            (calls-read cs slot (b .state) (b .rows) y keeps
+            (ap (λ (r : OpenedReceiver). r .receiver .due) (reporting.opened-receiver settled slot rows opens))),
+      )
+
+  pub reports-opened : (slot : ℕ) → OpensAt settled slot rows → (cs : List Report)
+      → let b : Opening = openReceiverBytes settings slot state rows in
+      let r : OpenedReceiver = openReceiverOf settled slot rows in
+      (b .reply ≡ 0) × Forall₂ SameReport (reports (r .receiver) (r .rows) cs) (reportsBytes slot (b .state) (b .rows) cs)
+  reports-opened slot opens cs =
+      let b : Opening = openReceiverBytes settings slot state rows in
+      let r : OpenedReceiver = openReceiverOf settled slot rows in
+      let (reply, same) = calls-opened slot opens (map report cs) in
+      (reply, rw (← without-look-ups (r .receiver) (r .rows) cs, ← alone cs slot (b .state) (b .rows)) (same .told))

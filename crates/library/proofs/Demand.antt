@@ -9,25 +9,22 @@ use Rattle.code.specs.declared.settings.Settings.{Settings}
 use Rattle.code.specs.Settings.{delayOf, kOf}
 use Rattle.repair.specs.Fair.{Fair}
 use Rattle.protocol.specs.Lengths.{lastSlot}
-use Rattle.protocol.specs.Calls.{OpenedSender, OpenedReceiver, openSenderOf, openReceiverOf}
-use Rattle.protocol.specs.TwoLists.{Send, SendMade, sends, ReportMade, reports}
+use Rattle.protocol.specs.TwoLists.{Send, SendMade, ReportMade}
 use Rattle.protocol.specs.Histories.{SentAs, accepts, ofLoss, lostAt, lostSince}
 use Rattle.protocol.specs.Claim.{Faithful, NoCause, Holds, Demand3}
 use Rattle.protocol.proofs.CauseTables.{OpensAt}
 use Rattle.protocol.proofs.Demand.{demand3}
-use Rattle.protocol.proofs.Sending as sending
-use Rattle.protocol.proofs.ReportChain as reporting
 use Rattle.protocol.specs.Numbers.{answerNumber, replyNumber}
 use Rattle.layout.specs.Numbers.{acceptance}
 use Rattle.layout.proofs.Refusals.{reply-accepted, answer-accepted}
-use Rattle.library.specs.Calls.{settingsOf, Opening, openSenderBytes, openReceiverBytes}
-use Rattle.library.specs.Chains.{SendDone, sendsBytes, ReportDone, reportsBytes}
+use Rattle.library.specs.Calls.{settingsOf}
+use Rattle.library.specs.Chains.{SendDone, ReportDone}
 use Rattle.library.specs.Claim.{SentAsBytes, lostAtBytes, FaithfulBytes, HoldsBytes, Demand3Bytes}
 use Rattle.library.proofs.Partners as partner
-use Rattle.library.proofs.Chains.{opened-sender-read, SameSend, sends-read, opened-receiver-read, SameReport, reports-read}
+use Rattle.library.proofs.Chains.{SameSend, SameReport, sends-opened, reports-opened}
 
 -- a report is accepted by the library exactly if protocol's is
-passed : {m : ReportMade} {b : ReportDone} → SameReport m b → acceptance (b .after .reply) ≡ accepts (m .after .reply)
+pub passed : {m : ReportMade} {b : ReportDone} → SameReport m b → acceptance (b .after .reply) ≡ accepts (m .after .reply)
 passed {m} same = ap acceptance (same .reply) ∙ reply-accepted (m .after .reply)
 
 -- and the same slots are lost
@@ -41,7 +38,7 @@ lost-same (Forall₂·cons {a = m} {b = b} same rest) t =
 
 module _ {sends₁ : List SendMade} {sends₂ : List SendDone} (alike : Forall₂ SameSend sends₁ sends₂) {t : ℕ} {message frame : List ℕ} where
   -- what protocol sent, the library sent
-  sent-bytes : SentAs sends₁ t message frame → SentAsBytes sends₂ t message frame
+  pub sent-bytes : SentAs sends₁ t message frame → SentAsBytes sends₂ t message frame
   sent-bytes a =
       let (b, listed, same) = partner.second alike (a .listed) in
       record {
@@ -69,7 +66,7 @@ module _ {sends₁ : List SendMade} {sends₂ : List SendDone} (alike : Forall�
 module _ (s : Settings) (opening : ℕ) {sends₁ : List SendMade} {sends₂ : List SendDone} (sent : Forall₂ SameSend sends₁ sends₂)
     {reports₁ : List ReportMade} {reports₂ : List ReportDone} (told : Forall₂ SameReport reports₁ reports₂) where
   -- frames that are the library's sender's own are those of protocol's
-  faithful : FaithfulBytes sends₂ reports₂ → Faithful sends₁ reports₁
+  pub faithful : FaithfulBytes sends₂ reports₂ → Faithful sends₁ reports₁
   unfolding Faithful FaithfulBytes
   faithful own r f m listed call taken =
       let (b, listed-b, same) = partner.second told listed in
@@ -77,7 +74,7 @@ module _ (s : Settings) (opening : ℕ) {sends₁ : List SendMade} {sends₂ : L
       (message, subst (λ (d : ℕ). SentAs sends₁ d message f) (same .due) (sent-made sent a))
 
   -- so what holds of protocol's lists holds of the library's
-  holds : Holds s opening sends₁ reports₁ → HoldsBytes s opening sends₂ reports₂
+  pub holds : Holds s opening sends₁ reports₁ → HoldsBytes s opening sends₂ reports₂
   holds h = record {
     sends-taken = λ b listed.
         let (m, listed-m, same) = partner.first sent listed in
@@ -125,21 +122,9 @@ unfolding Demand3Bytes Demand3
 demand3-bytes settings ok opening in-time senderState senderRows receiverState receiverRows sender-room sender-full receiver-room receiver-full
     sendCalls bytes reportCalls =
     let s : Settings = settingsOf settings in
-    let a : Opening = openSenderBytes settings senderState senderRows in
-    let b : Opening = openReceiverBytes settings opening receiverState receiverRows in
     let opens : OpensAt s opening receiverRows = record { settings = ok; exact = receiver-full; in-time = in-time } in
-    let x = openSenderOf s senderRows .sender in
-    let y = openReceiverOf s opening receiverRows .receiver in
-    let (a-reply, a-rows, a-keeps) = opened-sender-read settings senderState senderRows ok sender-room sender-full in
-    let (b-reply, b-rows, b-keeps) = opened-receiver-read settings opening receiverState receiverRows opens receiver-room in
-    let sent =
-    subst (λ (rows : List ℕ). Forall₂ SameSend (sends x rows sendCalls) (sendsBytes 0 (a .state) (a .rows) sendCalls)) a-rows
-    (sends-read sendCalls 0 (a .state) (a .rows) x a-keeps
-    (ap (λ (r : OpenedSender). r .sender .due) (sending.opened-sender s senderRows ok sender-full))) in
-    let told =
-    subst (λ (rows : List ℕ). Forall₂ SameReport (reports y rows reportCalls) (reportsBytes opening (b .state) (b .rows) reportCalls)) b-rows
-    (reports-read reportCalls opening (b .state) (b .rows) y b-keeps
-    (ap (λ (r : OpenedReceiver). r .receiver .due) (reporting.opened-receiver s opening receiverRows opens))) in (
+    let (a-reply, sent) = sends-opened settings ok senderState sender-room senderRows sender-full sendCalls in
+    let (b-reply, told) = reports-opened settings ok receiverState receiver-room receiverRows opening opens reportCalls in (
       a-reply,
       b-reply,
       λ own.

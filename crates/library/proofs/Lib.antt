@@ -4,3 +4,4 @@ pub mod Refused
 pub mod Chains
 pub mod Partners
 pub mod Demand
+pub mod Early

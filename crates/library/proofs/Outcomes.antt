@@ -4,6 +4,7 @@ use mathlib.Core.Bool.{Bool, true, false, cond, not, _&&_}
 use mathlib.Core.List.{List, [], _∷_}
 use Prim.Native.Nat.{ℕ}
 use lib.Dec.{eqb, ltb}
+use lib.IntN.{ℤ}
 use lib.ListN.{length, drop}
 use Rattle.galois.proofs.Cases.{is-true}
 use Rattle.code.specs.declared.settings.Settings.{Settings}
@@ -13,9 +14,10 @@ use Rattle.protocol.specs.declared.Cause.the-variants.{BadSettings, BadLength, 
 use Rattle.protocol.specs.Lengths.{lastSlot, senderLen, receiverLen}
 use Rattle.protocol.specs.declared.Answer.{Answer}
 use Rattle.protocol.specs.declared.Answer.the-variants as answer
-use Rattle.protocol.specs.Causes.{numberOf, row, firstOf, openTable, sendTable, lossTable, frameTable}
-use Rattle.protocol.specs.Causes.{openCause, openReceiverCause, sendCause, lossCause, frameCause, frameCauseOf}
+use Rattle.protocol.specs.Causes.{numberOf, row, firstOf, openTable, sendTable, lossTable, frameTable, lookUpTable}
+use Rattle.protocol.specs.Causes.{openCause, openReceiverCause, sendCause, lossCause, frameCause, frameCauseOf, lookUpCause}
 use Rattle.protocol.specs.Calls.{OpenedSender, OpenedReceiver, Sent, Reported, openSenderOf, sendOf, openReceiverOf, movedOn, heardOf, lossOf}
+use Rattle.protocol.specs.Calls.{lookUpOf}
 use Rattle.protocol.specs.Histories.{isAccepted, accepts}
 use Rattle.protocol.proofs.CauseTables.{followedBy, one-below}
 use Rattle.protocol.proofs.ReportRows.{moved-accepts}
@@ -23,7 +25,9 @@ use Rattle.frames.specs.Fields.{settingsAt}
 use Rattle.state.specs.State.{senderEnd, receiverEnd, senderBytes, receiverBytes, saved, stateLen, senderIn, receiverIn, stateTable, stateCause}
 use Rattle.protocol.specs.Numbers.{answerNumber, replyNumber}
 use Rattle.library.specs.Causes.{openBytesTable, openBytesCause, openReceiverBytesCause, sendBytesCause, heardBytesCause, lostBytesCause}
+use Rattle.library.specs.Causes.{lookUpBytesCause}
 use Rattle.library.specs.Calls.{settingsOf, lengthFor, Opening, openSenderBytes, openReceiverBytes, Sending, sendBytes, Reporting, reportedBytes, heardBytes, lostBytes}
+use Rattle.library.specs.Calls.{Looking, lookedBytes, lookUpBytes}
 
 -- ---- lengths
 
@@ -80,6 +84,12 @@ module _ (state rows message : List ℕ) where
   pub lost-cause : lostBytesCause state rows message ≡ followedBy (stateCause receiverEnd state) (lossCause (receiverIn state) rows message)
   unfolding stateCause lossCause lostBytesCause
   lost-cause = one-below (stateTable receiverEnd state) (lossTable (receiverIn state) rows message)
+
+  pub look-up-cause : (number : ℤ)
+      → lookUpBytesCause state rows number message
+      ≡ followedBy (stateCause receiverEnd state) (lookUpCause (receiverIn state) rows number message)
+  unfolding stateCause lookUpCause lookUpBytesCause
+  look-up-cause number = one-below (stateTable receiverEnd state) (lookUpTable (receiverIn state) rows number message)
 
 -- ---- openings
 
@@ -208,3 +218,19 @@ module _ (state rows message : List ℕ) where
           → reportLeft state (lossOf (receiverIn state) rows message) ≡ lostBytes state rows message
       go answer.Accepted e = rw (lost-cause state rows message, none, e, lostBytes, lossOf, e, lossOf) (moved-left _)
       go (answer.Refused c) e = rw (lost-cause state rows message, none, e, lostBytes, lossOf)
+
+  module _ (number : ℤ) where
+    pub look-up-caused : (c : Cause) → stateCause receiverEnd state ≡ answer.Refused c
+        → record { reply = numberOf c; message = message } ≡ lookUpBytes state rows number message
+    unfolding lookUpBytes
+    look-up-caused c e = rw (look-up-cause state rows message number, e, lookUpBytes)
+
+    pub look-up-uncaused : stateCause receiverEnd state ≡ answer.Accepted
+        → lookedBytes (lookUpOf (receiverIn state) rows number message) ≡ lookUpBytes state rows number message
+    unfolding lookUpOf lookUpBytes
+    look-up-uncaused none = go (lookUpCause (receiverIn state) rows number message) refl
+      where
+        go : (f : Answer) → lookUpCause (receiverIn state) rows number message ≡ f
+            → lookedBytes (lookUpOf (receiverIn state) rows number message) ≡ lookUpBytes state rows number message
+        go answer.Accepted e = rw (look-up-cause state rows message number, none, e, lookUpBytes)
+        go (answer.Refused c) e = rw (look-up-cause state rows message number, none, e, lookUpBytes, lookUpOf)

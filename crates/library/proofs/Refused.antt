@@ -3,22 +3,24 @@
 use mathlib.Core.Path.{_≡_, refl, sym, ap, _∙_}
 use mathlib.Core.List.{List}
 use Prim.Native.Nat.{ℕ}
+use lib.IntN.{ℤ}
 use Rattle.code.specs.declared.settings.Settings.{Settings}
 use Rattle.protocol.specs.declared.Cause.{Cause}
 use Rattle.protocol.specs.declared.Answer.{Answer}
 use Rattle.protocol.specs.declared.Answer.the-variants as answer
 use Rattle.protocol.specs.Lengths.{senderLen}
-use Rattle.protocol.specs.Causes.{numberOf, Row, firstOf, openCause, openReceiverCause, sendCause, lossCause, frameCause}
-use Rattle.protocol.specs.Calls.{openSenderOf, openReceiverOf, sendOf, heardOf, lossOf}
+use Rattle.protocol.specs.Causes.{numberOf, Row, firstOf, openCause, openReceiverCause, sendCause, lossCause, frameCause, lookUpCause}
+use Rattle.protocol.specs.Calls.{openSenderOf, openReceiverOf, sendOf, heardOf, lossOf, lookUpOf}
 use Rattle.protocol.proofs.CauseTables.{both-clear}
 use Rattle.protocol.proofs.NumberLaws.{accepted-number}
-use Rattle.protocol.proofs.Refusals.{Comes, number-first, number-refused, moved-number}
+use Rattle.protocol.proofs.Refusals.{Comes, number-first, number-refused, moved-number, told-number}
 use Rattle.state.specs.State.{senderEnd, receiverEnd, stateLen, senderIn, receiverIn, stateCause}
-use Rattle.library.specs.Causes.{openBytesTable, openReceiverBytesTable, sendBytesTable, heardBytesTable, lostBytesTable}
-use Rattle.library.specs.Causes.{openBytesCause, openReceiverBytesCause, sendBytesCause, heardBytesCause, lostBytesCause}
+use Rattle.library.specs.Causes.{openBytesTable, openReceiverBytesTable, sendBytesTable, heardBytesTable, lostBytesTable, lookUpBytesTable}
+use Rattle.library.specs.Causes.{openBytesCause, openReceiverBytesCause, sendBytesCause, heardBytesCause, lostBytesCause, lookUpBytesCause}
 use Rattle.library.specs.Calls.{settingsOf, Opening, openSenderBytes, openReceiverBytes, Sending, sendBytes, Reporting, heardBytes, lostBytes}
+use Rattle.library.specs.Calls.{Looking, lookUpBytes}
 use Rattle.library.specs.Refusals.{RefusesBytes, Demand1Bytes}
-use Rattle.library.proofs.Outcomes.{open-cause, open-receiver-cause, send-cause, heard-cause, lost-cause}
+use Rattle.library.proofs.Outcomes.{open-cause, open-receiver-cause, send-cause, heard-cause, lost-cause, look-up-cause}
 
 -- ---- the openings
 
@@ -95,6 +97,20 @@ report-stays : {state rows message : List ℕ} {r : Reporting} (c : Cause) → r
     → (r .state ≡ state) × (r .rows ≡ rows) × (r .message ≡ message)
 report-stays c e = (ap (λ (r : Reporting). r .state) e, ap (λ (r : Reporting). r .rows) e, ap (λ (r : Reporting). r .message) e)
 
+-- ---- look-ups
+
+abbrev unlooked : List ℕ → Cause → Looking
+unlooked message c = record { reply = numberOf c; message = message }
+
+looks : (state rows : List ℕ) (number : ℤ) (message : List ℕ) (a : Answer) → lookUpBytesCause state rows number message ≡ a
+    → Comes (λ (r : Looking). r .reply) (unlooked message) (lookUpBytes state rows number message) a
+unfolding lookUpBytes lookUpOf
+looks state rows number message answer.Accepted e =
+    let x = receiverIn state in
+    let none = both-clear (stateCause receiverEnd state) (lookUpCause x rows number message) (sym (look-up-cause state rows message number) ∙ e) .1 in
+    rw (e, lookUpBytes, none, lookUpOf) (told-number (x .settings) rows _ _)
+looks state rows number message (answer.Refused c) e = rw (e, lookUpBytes)
+
 -- ---- demand 1
 
 refuses : {R : Type 0} {Stays : Type 0} (reply : R → ℕ) (refusal : Cause → R) (r : R) → ((c : Cause) → reply (refusal c) ≡ numberOf c)
@@ -105,7 +121,7 @@ refuses reply refusal r says rs by stays = record {
 }
 
 pub demand1-bytes : Demand1Bytes
-unfolding openBytesCause openReceiverBytesCause sendBytesCause heardBytesCause lostBytesCause
+unfolding openBytesCause openReceiverBytesCause sendBytesCause heardBytesCause lostBytesCause lookUpBytesCause
 demand1-bytes = record {
   open-sender = λ settings state rows.
       let s : Settings = settingsOf settings in
@@ -129,4 +145,8 @@ demand1-bytes = record {
       refuses (λ (r : Reporting). r .reply) (unreported state rows message) (lostBytes state rows message) (λ c. refl)
       (lostBytesTable state rows message)
       (loses state rows message (lostBytesCause state rows message) refl) report-stays;
+  look-up = λ state rows number message.
+      refuses (λ (r : Looking). r .reply) (unlooked message) (lookUpBytes state rows number message) (λ c. refl)
+      (lookUpBytesTable state rows number message)
+      (looks state rows number message (lookUpBytesCause state rows number message) refl) (λ c e. ap (λ (r : Looking). r .message) e);
 }

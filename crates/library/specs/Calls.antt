@@ -3,16 +3,19 @@
 use mathlib.Core.Bool.{cond}
 use mathlib.Core.List.{List}
 use Prim.Native.Nat.{ℕ}
+use lib.IntN.{ℤ}
 use Rattle.code.specs.declared.settings.Settings.{Settings}
 use Rattle.code.specs.Settings.{accepted}
 use Rattle.protocol.specs.Lengths.{senderLen}
 use Rattle.protocol.specs.declared.Answer.the-variants as answer
 use Rattle.protocol.specs.Causes.{numberOf}
 use Rattle.protocol.specs.Calls.{OpenedSender, OpenedReceiver, Sent, Reported, openSenderOf, sendOf, openReceiverOf, heardOf, lossOf}
+use Rattle.protocol.specs.Calls.{Looked, lookUpOf}
 use Rattle.frames.specs.Fields.{settingsAt}
 use Rattle.state.specs.State.{senderBytes, receiverBytes, senderIn, receiverIn}
 use Rattle.protocol.specs.Numbers.{answerNumber, replyNumber}
 use Rattle.library.specs.Causes.{openBytesCause, openReceiverBytesCause, sendBytesCause, heardBytesCause, lostBytesCause}
+use Rattle.library.specs.Causes.{lookUpBytesCause}
 
 -- ---- lengths
 
@@ -124,4 +127,23 @@ lostBytes state rows message =
     elim (lostBytesCause state rows message) [
       | answer.Refused c ↦ record { reply = numberOf c; state = state; rows = rows; message = message }
       | answer.Accepted ↦ reportedBytes (lossOf (receiverIn state) rows message)
+    ]
+
+-- ---- look-ups
+
+-- a look-up's reply number, and the message buffer; the state and rows are lent to it to read
+pub record Looking : Type 0 where
+  pub reply : ℕ
+  pub message : List ℕ
+
+-- what a look-up leaves, by protocol's
+abbrev pub lookedBytes : Looked → Looking
+lookedBytes r = record { reply = replyNumber (r .reply); message = r .message }
+
+-- a look-up by the receiver that the state keeps
+unfoldable pub lookUpBytes : List ℕ → List ℕ → ℤ → List ℕ → Looking
+lookUpBytes state rows number message =
+    elim (lookUpBytesCause state rows number message) [
+      | answer.Refused c ↦ record { reply = numberOf c; message = message }
+      | answer.Accepted ↦ lookedBytes (lookUpOf (receiverIn state) rows number message)
     ]

@@ -4,13 +4,14 @@ use mathlib.Core.Bool.{not, _&&_}
 use mathlib.Core.List.{List, [], _∷_, _++_}
 use Prim.Native.Nat.{ℕ}
 use lib.Dec.{eqb, ltb}
+use lib.IntN.{ℤ}
 use lib.ListN.{length}
 use Rattle.code.specs.declared.settings.Settings.{Settings}
 use Rattle.code.specs.Settings.{accepted}
 use Rattle.protocol.specs.Lengths.{lastSlot, receiverLen}
 use Rattle.protocol.specs.declared.Cause.the-variants.{BadSettings, BadLength, LateOpening}
 use Rattle.protocol.specs.declared.Answer.{Answer}
-use Rattle.protocol.specs.Causes.{Row, row, firstOf, sendTable, lossTable, frameTable}
+use Rattle.protocol.specs.Causes.{Row, row, firstOf, sendTable, lossTable, frameTable, lookUpTable}
 use Rattle.state.specs.State.{senderEnd, receiverEnd, stateLen, senderIn, receiverIn, stateTable}
 
 -- an opening meets 1, and then 2 for the state or the rows
@@ -36,6 +37,10 @@ heardBytesTable state rows frame message = stateTable receiverEnd state ++ frame
 abbrev pub lostBytesTable : List ℕ → List ℕ → List ℕ → List Row
 lostBytesTable state rows message = stateTable receiverEnd state ++ lossTable (receiverIn state) rows message
 
+-- a look-up
+abbrev pub lookUpBytesTable : List ℕ → List ℕ → ℤ → List ℕ → List Row
+lookUpBytesTable state rows number message = stateTable receiverEnd state ++ lookUpTable (receiverIn state) rows number message
+
 -- what each table says
 unfoldable pub openBytesCause : Settings → ℕ → List ℕ → List ℕ → Answer
 openBytesCause s size state rows = firstOf (openBytesTable s size state rows)
@@ -51,3 +56,6 @@ heardBytesCause state rows frame message = firstOf (heardBytesTable state rows f
 
 unfoldable pub lostBytesCause : List ℕ → List ℕ → List ℕ → Answer
 lostBytesCause state rows message = firstOf (lostBytesTable state rows message)
+
+unfoldable pub lookUpBytesCause : List ℕ → List ℕ → ℤ → List ℕ → Answer
+lookUpBytesCause state rows number message = firstOf (lookUpBytesTable state rows number message)

@@ -3,8 +3,9 @@ use mathlib.Core.Bool.{cond}
 use mathlib.Core.List.{List, [], _∷_}
 use Prim.Native.Nat.{ℕ, _+_}
 use Rattle.protocol.specs.TwoLists.{Send, Report, heard, missed}
+use Rattle.early.specs.Mixed.{Call, report, lookUp}
 use Rattle.layout.specs.Numbers.{acceptance}
-use Rattle.library.specs.Calls.{Sending, sendBytes, Reporting, heardBytes, lostBytes}
+use Rattle.library.specs.Calls.{Sending, sendBytes, Reporting, heardBytes, lostBytes, Looking, lookUpBytes}
 
 -- the slot due after a call, by its reply: one more where it was accepted, the same where it was refused
 abbrev pub dueAfter : ℕ → ℕ → ℕ
@@ -40,3 +41,39 @@ reportsBytes due state rows [] = []
 reportsBytes due state rows (c ∷ cs) =
     let b : Reporting = reportBytes state rows c in
     record { due = due; call = c; after = b } ∷ reportsBytes (dueAfter due (b .reply)) (b .state) (b .rows) cs
+
+-- ---- reports and look-ups mixed
+
+-- one call: a look-up leaves the state and rows
+abbrev pub callBytes : List ℕ → List ℕ → Call → Reporting
+callBytes state rows (report call) = reportBytes state rows call
+callBytes state rows (lookUp number message) =
+    let r : Looking = lookUpBytes state rows number message in
+    record { reply = r .reply; state = state; rows = rows; message = r .message }
+
+-- the slot due after it
+abbrev pub dueAfterCall : ℕ → Call → ℕ → ℕ
+dueAfterCall due (report call) reply = dueAfter due reply
+dueAfterCall due (lookUp number message) reply = due
+
+-- a call that was made: the slot due, what it was lent by the caller, and what came of it
+pub record CallDone : Type 0 where
+  pub due : ℕ
+  pub call : Call
+  pub after : Reporting
+
+-- the calls of a list
+unfoldable pub callsBytes : ℕ → List ℕ → List ℕ → List Call → List CallDone
+callsBytes due state rows [] = []
+callsBytes due state rows (c ∷ cs) =
+    let b : Reporting = callBytes state rows c in
+    record { due = due; call = c; after = b } ∷ callsBytes (dueAfterCall due c (b .reply)) (b .state) (b .rows) cs
+
+-- the reports among them
+abbrev pub withReport : CallDone → Call → List ReportDone → List ReportDone
+withReport b (report call) later = record { due = b .due; call = call; after = b .after } ∷ later
+withReport b (lookUp number message) later = later
+
+unfoldable pub reportsInBytes : List CallDone → List ReportDone
+reportsInBytes [] = []
+reportsInBytes (b ∷ bs) = withReport b (b .call) (reportsInBytes bs)

@@ -1,6 +1,7 @@
--- To be believed: the static library's calls, one by one and in lists, and demands 1 and 3 about them.
+-- To be believed: the static library's calls, one by one and in lists, demands 1 and 3 about them, and what look-ups tell early.
 pub mod Causes
 pub mod Calls
 pub mod Chains
 pub mod Refusals
 pub mod Claim
+pub mod Early

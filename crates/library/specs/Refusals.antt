@@ -4,21 +4,23 @@ use mathlib.Core.Path.{_≡_}
 use mathlib.Core.Logic.{_↔_}
 use mathlib.Core.List.{List}
 use Prim.Native.Nat.{ℕ}
+use lib.IntN.{ℤ}
 use Rattle.code.specs.declared.settings.Settings.{Settings}
 use Rattle.protocol.specs.declared.Cause.{Cause}
 use Rattle.protocol.specs.Lengths.{senderLen}
 use Rattle.protocol.specs.Causes.{numberOf, Row}
 use Rattle.protocol.specs.Refusals.{First}
 use Rattle.library.specs.Causes.{openBytesTable, openReceiverBytesTable, sendBytesTable, heardBytesTable, lostBytesTable}
+use Rattle.library.specs.Causes.{lookUpBytesTable}
 use Rattle.library.specs.Calls.{settingsOf, Opening, openSenderBytes, openReceiverBytes, Sending, sendBytes}
-use Rattle.library.specs.Calls.{Reporting, heardBytes, lostBytes}
+use Rattle.library.specs.Calls.{Reporting, heardBytes, lostBytes, Looking, lookUpBytes}
 
 -- a call with this table that gave this number: it is a cause's number exactly if that cause is the first that holds, and then all stays
 pub record RefusesBytes (table : List Row) (number : ℕ) (Stays : Type 0) : Type 0 where
   pub first : (c : Cause) → (number ≡ numberOf c) ↔ First c table
   pub stays : (c : Cause) → number ≡ numberOf c → Stays
 
--- demand 1, of each of the five calls, with any bytes at all lent to it
+-- demand 1, of each of the six calls, with any bytes at all lent to it
 pub record Demand1Bytes : Type 0 where
   pub open-sender : (settings state rows : List ℕ)
       → let s : Settings = settingsOf settings in
@@ -40,3 +42,6 @@ pub record Demand1Bytes : Type 0 where
       → let r : Reporting = lostBytes state rows message in
       RefusesBytes (lostBytesTable state rows message) (r .reply)
       ((r .state ≡ state) × (r .rows ≡ rows) × (r .message ≡ message))
+  pub look-up : (state rows : List ℕ) (number : ℤ) (message : List ℕ)
+      → let r : Looking = lookUpBytes state rows number message in
+      RefusesBytes (lookUpBytesTable state rows number message) (r .reply) (r .message ≡ message)

@@ -46,7 +46,7 @@ module _ (s : Settings) (ok : T (accepted s)) (calls : List Send) (bytes : (c : 
   messages = messageAt (sentOf s calls)
 
   -- a frame that was heard is the one that the sender handed out
-  heard-sent : (τ : ℕ) (f : List ℕ) → Heard told τ f → (message : List ℕ) × SentAs sent τ message f
+  pub heard-sent : (τ : ℕ) (f : List ℕ) → Heard told τ f → (message : List ℕ) × SentAs sent τ message f
   unfolding Faithful
   heard-sent τ f h =
       let a = h .by in
@@ -69,7 +69,7 @@ module _ (s : Settings) (ok : T (accepted s)) (calls : List Send) (bytes : (c : 
       ∙ symbol-slot s (shape s ok) messages (message-byte s calls bytes) t i v p late
 
   -- so the rows tell the truth about message t, from any point on at which it can be told
-  truthful : (rows : List ℕ) (due t : ℕ) → Reached s (rowBefore s) d told rows due → due ≤ t + delayOf s + 1
+  pub truthful : (rows : List ℕ) (due t : ℕ) → Reached s (rowBefore s) d told rows due → due ≤ t + delayOf s + 1
       → Truthful s rows due t messages (lostSince d (lostAt told))
   truthful rows due t c to = record {
     heard-known = λ i v p hi hv hp now kept. known-if c t to i p v hi now (not-true (lostPosition (lostSince d (lostAt told)) t i p) kept);
@@ -125,7 +125,7 @@ module _ (s : Settings) (ok : T (accepted s)) (calls : List Send) (bytes : (c : 
         )
 
   -- all of it
-  holds : Holds s d sent told
+  pub holds : Holds s d sent told
   holds = record {
     sends-taken = sends-taken s ok calls;
     reports-taken = reports-taken (begun .chain);

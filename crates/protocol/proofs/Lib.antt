@@ -28,6 +28,7 @@ pub mod ReceivedRows
 pub mod SlotRows
 pub mod Arrivals
 pub mod ReportMeaning
+pub mod LookUps
 pub mod Openings
 pub mod Delays
 pub mod EarlyVerdict

@@ -6,7 +6,7 @@ use native.Mathlib.Omega.{arith}
 use Prim.Native.Nat.{ℕ}
 use lib.Dec.{eqb}
 use Rattle.protocol.specs.declared.Cause.{Cause}
-use Rattle.protocol.specs.declared.Cause.the-variants.{BadSettings, BadLength, PastLastSlot, OtherMark, OtherSettings, OtherSlot, LateOpening}
+use Rattle.protocol.specs.declared.Cause.the-variants.{BadSettings, BadLength, PastLastSlot, OtherMark, OtherSettings, OtherSlot, LateOpening, OutOfReach}
 use Rattle.protocol.specs.declared.Answer.{Answer}
 use Rattle.protocol.specs.declared.Answer.the-variants as answer
 use Rattle.protocol.specs.declared.Reply.{Reply}
@@ -21,7 +21,8 @@ causeOf n =
     cond (eqb n 1) BadSettings
     (cond (eqb n 2) BadLength
     (cond (eqb n 3) PastLastSlot
-    (cond (eqb n 4) OtherMark (cond (eqb n 5) OtherSettings (cond (eqb n 6) OtherSlot LateOpening)))))
+    (cond (eqb n 4) OtherMark
+    (cond (eqb n 5) OtherSettings (cond (eqb n 6) OtherSlot (cond (eqb n 7) LateOpening OutOfReach))))))
 
 unfoldable answerOf : ℕ → Answer
 answerOf n = cond (eqb n 0) answer.Accepted (answer.Refused (causeOf n))
@@ -35,27 +36,28 @@ replyOf n =
 
 -- what holds at each of the causes holds at all
 each : (P : Cause → Type 0) → P BadSettings → P BadLength → P PastLastSlot → P OtherMark → P OtherSettings → P OtherSlot
-    → P LateOpening → (c : Cause) → P c
-each P p₁ p₂ p₃ p₄ p₅ p₆ p₇ BadSettings = p₁
-each P p₁ p₂ p₃ p₄ p₅ p₆ p₇ BadLength = p₂
-each P p₁ p₂ p₃ p₄ p₅ p₆ p₇ PastLastSlot = p₃
-each P p₁ p₂ p₃ p₄ p₅ p₆ p₇ OtherMark = p₄
-each P p₁ p₂ p₃ p₄ p₅ p₆ p₇ OtherSettings = p₅
-each P p₁ p₂ p₃ p₄ p₅ p₆ p₇ OtherSlot = p₆
-each P p₁ p₂ p₃ p₄ p₅ p₆ p₇ LateOpening = p₇
+    → P LateOpening → P OutOfReach → (c : Cause) → P c
+each P p₁ p₂ p₃ p₄ p₅ p₆ p₇ p₈ BadSettings = p₁
+each P p₁ p₂ p₃ p₄ p₅ p₆ p₇ p₈ BadLength = p₂
+each P p₁ p₂ p₃ p₄ p₅ p₆ p₇ p₈ PastLastSlot = p₃
+each P p₁ p₂ p₃ p₄ p₅ p₆ p₇ p₈ OtherMark = p₄
+each P p₁ p₂ p₃ p₄ p₅ p₆ p₇ p₈ OtherSettings = p₅
+each P p₁ p₂ p₃ p₄ p₅ p₆ p₇ p₈ OtherSlot = p₆
+each P p₁ p₂ p₃ p₄ p₅ p₆ p₇ p₈ LateOpening = p₇
+each P p₁ p₂ p₃ p₄ p₅ p₆ p₇ p₈ OutOfReach = p₈
 
 cause-back : (c : Cause) → causeOf (numberOf c) ≡ c
 unfolding causeOf
-cause-back = each (λ c. causeOf (numberOf c) ≡ c) refl refl refl refl refl refl refl
+cause-back = each (λ c. causeOf (numberOf c) ≡ c) refl refl refl refl refl refl refl refl
 
 answer-back : (a : Answer) → answerOf (answerNumber a) ≡ a
 unfolding answerOf causeOf
 answer-back answer.Accepted = refl
-answer-back (answer.Refused c) = each (λ c. answerOf (numberOf c) ≡ answer.Refused c) refl refl refl refl refl refl refl c
+answer-back (answer.Refused c) = each (λ c. answerOf (numberOf c) ≡ answer.Refused c) refl refl refl refl refl refl refl refl c
 
 reply-back : (r : Reply) → replyOf (replyNumber r) ≡ r
 unfolding replyOf causeOf
-reply-back (reply.Refused c) = each (λ c. replyOf (numberOf c) ≡ reply.Refused c) refl refl refl refl refl refl refl c
+reply-back (reply.Refused c) = each (λ c. replyOf (numberOf c) ≡ reply.Refused c) refl refl refl refl refl refl refl refl c
 reply-back reply.NoneYet = refl
 reply-back reply.Whole = refl
 reply-back reply.Lost = refl

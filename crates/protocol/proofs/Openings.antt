@@ -46,7 +46,7 @@ first-told : (s : Settings) → T (accepted s) → (t : ℕ) → t + delayOf s �
     → (call : Report)
     → let b : OpenedReceiver = openReceiverOf s (t + delayOf s) rows in
     let r : Reported = reportOf (b .receiver) (b .rows) call in
-    T (accepts (r .reply)) → Tells s (inTime s (r .rows) t) r × (replyNumber (r .reply) ≡ 16 → ⊥)
+    T (accepts (r .reply)) → Tells s (inTime s (r .rows) t) (r .reply) (r .message) × (replyNumber (r .reply) ≡ 16 → ⊥)
 first-told s ok t in-time rows exact call =
     let slot : ℕ = t + delayOf s in
     let opens : OpensAt s slot rows = record { settings = ok; exact = exact; in-time = in-time } in

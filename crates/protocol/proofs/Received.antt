@@ -10,6 +10,7 @@ use borrow.Author.Tests.{le-ltb}
 use Rattle.code.specs.declared.settings.Settings.{Settings}
 use Rattle.code.specs.Settings.{delayOf}
 use Rattle.protocol.specs.declared.Receiver.{Receiver}
+use Rattle.protocol.specs.declared.Reply.{Reply}
 use Rattle.protocol.specs.Lengths.{lastSlot, messageLen, frameLen, receiverLen}
 use Rattle.protocol.specs.Frame.{header}
 use Rattle.protocol.specs.Verdict.{verdict, bufferOf}
@@ -52,14 +53,16 @@ accepted-taken : (r : ReportMade) → Taken r ⊎ Stayed r → T (accepts (r .af
 accepted-taken r (inl t) ok = t
 accepted-taken r (inr t) ok = absurd (t .failed ok)
 
--- what a call tells of message t, once the slots below due are reported
-abbrev pub ByVerdict : Settings → ℕ → ℕ → Reported → Type 0
-ByVerdict s due t q =
-    (q .reply ≡ verdict s (q .rows) due t) × (q .message ≡ bufferOf s (q .rows) due t (verdict s (q .rows) due t))
+-- what a reply and its message buffer tell of message t, by the rows once the slots below due are reported
+abbrev pub ByVerdict : Settings → List ℕ → ℕ → ℕ → Reply → List ℕ → Type 0
+ByVerdict s rows due t reply message = (reply ≡ verdict s rows due t) × (message ≡ bufferOf s rows due t (verdict s rows due t))
 
--- a report of slot t + T tells of it
+-- what the report of slot t + T tells of it
+abbrev pub ByLastSlot : Settings → ℕ → Reported → Type 0
+ByLastSlot s t q = ByVerdict s (q .rows) (t + delayOf s + 1) t (q .reply) (q .message)
+
 pub by-verdict : (x : Receiver) (t : ℕ) (row rows : List ℕ) → x .due ≡ t + delayOf (x .settings)
-    → ByVerdict (x .settings) (t + delayOf (x .settings) + 1) t (movedOn x row rows)
+    → ByLastSlot (x .settings) t (movedOn x row rows)
 unfolding movedOn messageDue
 by-verdict x t row rows e =
     let delay : ℕ = delayOf (x .settings) in
@@ -83,11 +86,11 @@ module _ {s : Settings} {d : ℕ} {rows : List ℕ} {told : List ReportMade} (ch
 
   -- the report of slot t + T tells of message t
   pub told-at : (r : ReportMade) (t : ℕ) → List·Memᴰ r told → T (accepts (r .after .reply)) → r .before .due ≡ t + delayOf s
-      → ByVerdict s (t + delayOf s + 1) t (r .after)
+      → ByLastSlot s t (r .after)
   told-at r t listed ok e =
       let x : Receiver = r .before in
       let same : x .settings ≡ s = along chain r listed .settings in
       let due : x .due ≡ t + delayOf (x .settings) = rw same e in
-      subst (λ (q : Settings). ByVerdict q (t + delayOf q + 1) t (r .after)) same
-      (subst⁻¹ (ByVerdict (x .settings) (t + delayOf (x .settings) + 1) t) (taken-of r listed ok .moved)
+      subst (λ (q : Settings). ByLastSlot q t (r .after)) same
+      (subst⁻¹ (ByLastSlot (x .settings) t) (taken-of r listed ok .moved)
       (by-verdict x t (rowOf (x .settings) (r .call)) (r .rows) due))

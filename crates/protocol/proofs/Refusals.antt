@@ -6,6 +6,7 @@ use mathlib.Core.List.{List, [], _∷_}
 use native.Mathlib.Omega.{arith}
 use Prim.Native.Nat.{ℕ}
 use lib.Dec.{T}
+use lib.IntN.{ℤ}
 use Rattle.code.specs.declared.settings.Settings.{Settings}
 use Rattle.protocol.specs.declared.Sender.{Sender}
 use Rattle.protocol.specs.declared.Receiver.{Receiver}
@@ -17,16 +18,17 @@ use Rattle.protocol.specs.declared.Reply.the-variants as reply
 use Rattle.protocol.specs.Lengths.{senderLen}
 use Rattle.protocol.specs.States.{noSender, noReceiver}
 use Rattle.protocol.specs.Causes.{numberOf, check, Row, firstOf}
-use Rattle.protocol.specs.Causes.{openTable, openReceiverTable, sendTable, lossTable, frameTable}
-use Rattle.protocol.specs.Causes.{openCause, openReceiverCause, sendCause, lossCause, frameCause, frameCauseOf}
+use Rattle.protocol.specs.Causes.{openTable, openReceiverTable, sendTable, lossTable, frameTable, lookUpTable}
+use Rattle.protocol.specs.Causes.{openCause, openReceiverCause, sendCause, lossCause, frameCause, frameCauseOf, lookUpCause}
 use Rattle.protocol.specs.Numbers.{answerNumber, replyNumber}
 use Rattle.protocol.specs.Calls.{OpenedSender, openSenderOf, Sent, sendOf, OpenedReceiver, openReceiverOf}
-use Rattle.protocol.specs.Calls.{Reported, movedOn, lossOf, heardOf}
+use Rattle.protocol.specs.Verdict.{verdict}
+use Rattle.protocol.specs.Calls.{Reported, movedOn, lossOf, heardOf, Looked, tellOf, lookUpOf}
 use Rattle.protocol.specs.Histories.{accepts}
 use Rattle.protocol.specs.Refusals.{First, here, later, inOrder, Refuses, Demand1}
 use Rattle.protocol.proofs.NumberLaws.{reply-tells, accepted-number}
 use Rattle.protocol.proofs.NumberLaws.{number-tells}
-use Rattle.protocol.proofs.ReportRows.{moved-accepts}
+use Rattle.protocol.proofs.ReportRows.{verdict-accepts, moved-accepts}
 
 -- ---- a table read from the top finds c exactly if c is the first that holds
 
@@ -119,10 +121,18 @@ unreported x rows message c = record { reply = reply.Refused c; receiver = x; ro
 abbrev Reports : Receiver → List ℕ → List ℕ → Reported → Answer → Type 0
 Reports x rows message = Comes (λ (r : Reported). replyNumber (r .reply)) (unreported x rows message)
 
--- the number of a report that moves the slot due on is no cause's
+-- the number of a reply that is no refusal is no cause's
+taken-number : (r : Reply) → T (accepts r) → (c : Cause) → replyNumber r ≢ numberOf c
+taken-number r ok c e = subst (λ (r : Reply). T (accepts r)) (reply-tells r (reply.Refused c) e) ok
+
+-- so is that of a report that moves the slot due on
 pub moved-number : (x : Receiver) (row rows : List ℕ) (c : Cause) → replyNumber (movedOn x row rows .reply) ≢ numberOf c
-moved-number x row rows c e =
-    subst (λ (r : Reply). T (accepts r)) (reply-tells (movedOn x row rows .reply) (reply.Refused c) e) (moved-accepts x row rows)
+moved-number x row rows = taken-number (movedOn x row rows .reply) (moved-accepts x row rows)
+
+-- and that of what is told by the rows
+pub told-number : (s : Settings) (rows : List ℕ) (due t : ℕ) (c : Cause) → replyNumber (tellOf s rows due t .reply) ≢ numberOf c
+unfolding tellOf
+told-number s rows due t = taken-number (verdict s rows due t) (verdict-accepts s rows due t)
 
 loses : (x : Receiver) (rows message : List ℕ) (a : Answer) → lossCause x rows message ≡ a → Reports x rows message (lossOf x rows message) a
 unfolding lossOf
@@ -139,10 +149,21 @@ report-stays : {x : Receiver} {rows message : List ℕ} {r : Reported} (c : Caus
     → (r .receiver ≡ x) × (r .rows ≡ rows) × (r .message ≡ message)
 report-stays c e = (ap (λ (r : Reported). r .receiver) e, ap (λ (r : Reported). r .rows) e, ap (λ (r : Reported). r .message) e)
 
+-- ---- look-ups
+
+abbrev unlooked : List ℕ → Cause → Looked
+unlooked message c = record { reply = reply.Refused c; message = message }
+
+looks : (x : Receiver) (rows : List ℕ) (number : ℤ) (message : List ℕ) (a : Answer) → lookUpCause x rows number message ≡ a
+    → Comes (λ (r : Looked). replyNumber (r .reply)) (unlooked message) (lookUpOf x rows number message) a
+unfolding lookUpOf
+looks x rows number message answer.Accepted e = rw (e, lookUpOf) (told-number (x .settings) rows _ _)
+looks x rows number message (answer.Refused c) e = rw (e, lookUpOf)
+
 -- ---- demand 1
 
 pub demand1 : Demand1
-unfolding openCause openReceiverCause sendCause lossCause frameCauseOf
+unfolding openCause openReceiverCause sendCause lossCause frameCauseOf lookUpCause
 demand1 = record {
   open-sender = λ s rows.
       refuses (λ (r : OpenedSender). answerNumber (r .answer)) (noSenderFor rows) (openSenderOf s rows) (λ c. refl)
@@ -162,4 +183,8 @@ demand1 = record {
   heard = λ x rows frame message.
       refuses (λ (r : Reported). replyNumber (r .reply)) (unreported x rows message) (heardOf x rows frame message) (λ c. refl)
       (frameTable x rows frame message) tt (hears x rows frame message (frameCause x rows frame message) refl) report-stays;
+  look-up = λ x rows number message.
+      refuses (λ (r : Looked). replyNumber (r .reply)) (unlooked message) (lookUpOf x rows number message) (λ c. refl)
+      (lookUpTable x rows number message) tt (looks x rows number message (lookUpCause x rows number message) refl)
+      (λ c e. ap (λ (r : Looked). r .message) e);
 }

@@ -40,22 +40,23 @@ none-by false q n = (λ e. absurd (n e), λ h. absurd h)
 
 -- ---- the verdict, by its number
 
-module _ (s : Settings) (due t : ℕ) (r : Reported) (e : ByVerdict s due t r) where
-  number-of : {P : Type 0} (x : Reply) → (verdict s (r .rows) due t ≡ x) ↔ P → (replyNumber (r .reply) ≡ replyNumber x) ↔ P
+module _ (s : Settings) (rows : List ℕ) (due t : ℕ) where
+  number-of : {P : Type 0} (x : Reply) → (verdict s rows due t ≡ x) ↔ P → (replyNumber (verdict s rows due t) ≡ replyNumber x) ↔ P
   number-of x iff = (
-    λ n. iff .0 (sym (e .0) ∙ reply-tells (r .reply) x n),
-    λ p. ap replyNumber (e .0 ∙ iff .1 p),
+    λ n. iff .0 (reply-tells (verdict s rows due t) x n),
+    λ p. ap replyNumber (iff .1 p),
   )
 
-  tells : Tells s (arrived s (r .rows) due t) r
-  tells = record {
-    clash = number-of reply.Clash (verdict-clash s (r .rows) due t);
-    lost = number-of reply.Lost (verdict-lost s (r .rows) due t);
-    whole = number-of reply.Whole (verdict-else s (r .rows) due t);
-    shared = λ n.
-        subst⁻¹ (λ (l : List ℕ). AllShare s (arrived s (r .rows) due t) (λ i v. getD l (i * s .lanes + v) 0)) (e .1)
-        (whole-bytes s (r .rows) due t (sym (e .0) ∙ reply-tells (r .reply) reply.Whole n));
-  }
+  -- a call that replies with the verdict and leaves its buffer tells of the message
+  pub tells : (r : Reply) (message : List ℕ) → ByVerdict s rows due t r message → Tells s (arrived s rows due t) r message
+  tells r message e =
+      rw (e .0, e .1)
+      record {
+        clash = number-of reply.Clash (verdict-clash s rows due t);
+        lost = number-of reply.Lost (verdict-lost s rows due t);
+        whole = number-of reply.Whole (verdict-else s rows due t);
+        shared = λ n. whole-bytes s rows due t (reply-tells (verdict s rows due t) reply.Whole n);
+      }
 
 -- ---- by the rows
 
@@ -82,8 +83,7 @@ moved-report x call rows =
       moved = (refl, refl, refl);
       written = refl;
       none-yet = (λ e. ltb→lt (x .due) (delayOf s) (none .0 e), λ h. none .1 (lt→ltb (x .due) (delayOf s) h));
-      tells = λ u e.
-          tells s (u + delayOf s + 1) u (movedOn x (rowOf s call) rows) (by-verdict x u (rowOf s call) rows e);
+      tells = λ u e. tells s now (u + delayOf s + 1) u _ _ (by-verdict x u (rowOf s call) rows e);
       exact = buffer-length s now (x .due + 1) t told;
       zeros = buffer-zeros s now (x .due + 1) t told;
     }

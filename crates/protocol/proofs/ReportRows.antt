@@ -34,7 +34,7 @@ either true p q hp hq = hp
 either false p q hp hq = hq
 
 -- a verdict is no refusal
-verdict-accepts : (s : Settings) (rows : List ℕ) (due t : ℕ) → T (accepts (verdict s rows due t))
+pub verdict-accepts : (s : Settings) (rows : List ℕ) (due t : ℕ) → T (accepts (verdict s rows due t))
 unfolding verdict
 verdict-accepts s rows due t =
     let lost : Bool = twoDiffer s rows due t in

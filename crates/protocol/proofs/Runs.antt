@@ -84,25 +84,25 @@ table-clear rs {number} refuses none = go (firstOf rs) refl
 
 module _ (s : Settings) (opening : ℕ) (sent : List SendMade) (told : List ReportMade) (a : SenderOpened s sent)
     (b : ReceiverOpened s opening told) (bytes : (m : SendMade) → List·Memᴰ m sent → Bytes (m .call .message)) where
-  abbrev sendCalls : List Send
+  abbrev pub sendCalls : List Send
   sendCalls = map (λ m. m .call) sent
 
   abbrev reportCalls : List Report
   reportCalls = map (λ m. m .call) told
 
-  send-bytes : (c : Send) → List·Memᴰ c sendCalls → Bytes (c .message)
+  pub send-bytes : (c : Send) → List·Memᴰ c sendCalls → Bytes (c .message)
   send-bytes c h =
       let (m, listed, e) = Memᴰ·of-map (λ (m : SendMade). m .call) sent h in
       subst (λ (c : Send). Bytes (c .message)) e (bytes m listed)
 
   -- the lists of the definitions
-  abbrev sentList : List SendMade
+  abbrev pub sentList : List SendMade
   sentList = sends (openSenderOf s (a .lent) .sender) (openSenderOf s (a .lent) .rows) sendCalls
 
   abbrev toldList : List ReportMade
   toldList = reports (openReceiverOf s opening (b .lent) .receiver) (openReceiverOf s opening (b .lent) .rows) reportCalls
 
-  sent-listed : sent ≡ sentList
+  pub sent-listed : sent ≡ sentList
   sent-listed =
       sender-list (a .opened .sender) (a .opened .rows) sent (a .run)
       ∙ ap (λ (o : OpenedSender). sends (o .sender) (o .rows) sendCalls) (a .ensured)
@@ -112,14 +112,14 @@ module _ (s : Settings) (opening : ℕ) (sent : List SendMade) (told : List Repo
       receiver-list (b .opened .receiver) (b .opened .rows) told (b .run)
       ∙ ap (λ (o : OpenedReceiver). reports (o .receiver) (o .rows) reportCalls) (b .ensured)
 
-  sender-exact : length (a .lent) ≡ senderLen s
+  pub sender-exact : length (a .lent) ≡ senderLen s
   unfolding openCause
   sender-exact =
       open-exact s (senderLen s) (a .lent)
       (table-clear (openTable s (senderLen s) (a .lent)) (demand1 .open-sender s (a .lent))
       (ap (λ (o : OpenedSender). answerNumber (o .answer)) (sym (a .ensured)) ∙ a .accepted))
 
-  receiver-opens : OpensAt s opening (b .lent)
+  pub receiver-opens : OpensAt s opening (b .lent)
   unfolding openReceiverCause
   receiver-opens =
       receiver-open s opening (b .lent)

@@ -1,8 +1,10 @@
--- Document 01, "What is remembered" and "Why a call says no", and document 02 §3: each call as a function of the state and every lent list.
+-- Document 01, "What is remembered" and "Why a call says no", and document 02 §3 and §6: each call as a function of the state and every
+-- lent list.
 use mathlib.Core.Bool.{cond}
 use mathlib.Core.List.{List, _∷_}
 use Prim.Native.Nat.{ℕ, _+_, _-_, _%_}
 use lib.Dec.{ltb}
+use lib.IntN.{ℤ, natAbs}
 use lib.ListN.{drop, replicate}
 use Rattle.code.specs.declared.settings.Settings.{Settings}
 use Rattle.code.specs.Settings.{delayOf, nOf}
@@ -17,7 +19,7 @@ use Rattle.protocol.specs.States.{openedSender, sentOn, noSender, opened
 use Rattle.protocol.specs.Frame.{frameOf}
 use Rattle.protocol.specs.Rows.{putRow, joined}
 use Rattle.protocol.specs.Verdict.{verdict, bufferOf}
-use Rattle.protocol.specs.Causes.{openCause, openReceiverCause, sendCause, lossCause, frameCause}
+use Rattle.protocol.specs.Causes.{openCause, openReceiverCause, sendCause, lossCause, lookUpCause, frameCause}
 
 -- ---- the sender
 
@@ -126,4 +128,21 @@ heardOf x rows frame message =
     elim (frameCause x rows frame message) [
       | answer.Accepted ↦ movedOn x (1 ∷ drop 14 frame) rows
       | answer.Refused c ↦ record { reply = reply.Refused c; receiver = x; rows = rows; message = message }
+    ]
+
+pub record Looked : Type 0 where
+  pub reply : Reply
+  pub message : List ℕ
+
+-- what the rows tell of message t by the slots below due, and the message buffer, as at a report
+unfoldable pub tellOf : Settings → List ℕ → ℕ → ℕ → Looked
+tellOf s rows due t = let told : Reply = verdict s rows due t in record { reply = told; message = bufferOf s rows due t told }
+
+-- a look-up tells of a message by the slots reported so far, which are those below the slot due: later ones are as losses to it. It
+-- leaves the state and rows
+unfoldable pub lookUpOf : Receiver → List ℕ → ℤ → List ℕ → Looked
+lookUpOf x rows number message =
+    elim (lookUpCause x rows number message) [
+      | answer.Accepted ↦ tellOf (x .settings) rows (x .due) (natAbs number)
+      | answer.Refused c ↦ record { reply = reply.Refused c; message = message }
     ]

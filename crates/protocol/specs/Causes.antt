@@ -1,18 +1,20 @@
 -- Document 01, "Why a call says no", and document 02: the causes, their numbers, the table of each call in the order of checking, and
 -- the first that holds.
-use mathlib.Core.Bool.{Bool, true, false, not}
+use mathlib.Core.Bool.{Bool, true, false, not, _||_}
 use mathlib.Core.List.{List, [], _∷_, _++_}
 use Prim.Native.Nat.{ℕ}
 use lib.Dec.{eqb, ltb}
+use lib.IntN.{ℤ, pos, _-ℤ_}
 use lib.ListN.{getD, length, drop}
+use lib.Signed.{ltZ, leZ}
 use Rattle.galois.specs.Bounded.{every}
 use Rattle.code.specs.declared.settings.Settings.{Settings}
-use Rattle.code.specs.Settings.{accepted}
+use Rattle.code.specs.Settings.{accepted, delayOf}
 use Rattle.protocol.specs.declared.Sender.{Sender}
 use Rattle.protocol.specs.declared.Receiver.{Receiver}
 use Rattle.protocol.specs.declared.Cause.{Cause}
 use Rattle.protocol.specs.declared.Cause.the-variants.{BadSettings, BadLength, PastLastSlot, OtherMark, OtherSettings, OtherSlot}
-use Rattle.protocol.specs.declared.Cause.the-variants.{LateOpening}
+use Rattle.protocol.specs.declared.Cause.the-variants.{LateOpening, OutOfReach}
 use Rattle.protocol.specs.declared.Answer.{Answer}
 use Rattle.protocol.specs.declared.Answer.the-variants as answer
 use Rattle.protocol.specs.Lengths.{lastSlot, senderLen, receiverLen, exactly, exactlyFramed}
@@ -27,6 +29,7 @@ numberOf OtherMark = 4
 numberOf OtherSettings = 5
 numberOf OtherSlot = 6
 numberOf LateOpening = 7
+numberOf OutOfReach = 8
 
 -- refused for the cause c where its condition holds, else what the rest of the table says
 abbrev pub check : Bool → Cause → Answer → Answer
@@ -76,6 +79,22 @@ sendTable x rows message frame =
 abbrev pub lossTable : Receiver → List ℕ → List ℕ → List Row
 lossTable x rows message = let s = x .settings in slotTable s (exactly s (receiverLen s) (length rows) (length message)) (x .due)
 
+-- a message below the slot due less T: its last slot is reported
+abbrev pub tooOld : Settings → ℕ → ℤ → Bool
+tooOld s due number = ltZ number (pos due -ℤ pos (delayOf s))
+
+-- one that is not below the slot due: its own slot is not reported
+abbrev pub tooNew : ℕ → ℤ → Bool
+tooNew due number = leZ (pos due) number
+
+-- no look-up tells of such a message, nor of one below 0
+unfoldable pub outOfReach : Settings → ℕ → ℤ → Bool
+outOfReach s due number = tooOld s due number || ltZ number (pos 0) || tooNew due number
+
+-- the look-up of a message by its number meets what a loss report does, and 8
+abbrev pub lookUpTable : Receiver → List ℕ → ℤ → List ℕ → List Row
+lookUpTable x rows number message = lossTable x rows message ++ (row (outOfReach (x .settings) (x .due) number) OutOfReach ∷ [])
+
 -- a frame meets 4 and 5, for this version and these settings
 abbrev pub headerTable : ℕ → Settings → List ℕ → List Row
 headerTable version s frame =
@@ -110,6 +129,9 @@ sendCause x rows message frame = firstOf (sendTable x rows message frame)
 
 unfoldable pub lossCause : Receiver → List ℕ → List ℕ → Answer
 lossCause x rows message = firstOf (lossTable x rows message)
+
+unfoldable pub lookUpCause : Receiver → List ℕ → ℤ → List ℕ → Answer
+lookUpCause x rows number message = firstOf (lookUpTable x rows number message)
 
 unfoldable pub headerCause : ℕ → Settings → List ℕ → Answer
 headerCause version s frame = firstOf (headerTable version s frame)

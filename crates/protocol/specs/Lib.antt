@@ -16,8 +16,8 @@ pub mod Calls
 pub mod TwoLists
 pub mod Histories
 -- The demands, as statements about these definitions; proofs/ has the theorem of each.
--- Demand 1: `Demand1`. Demand 2: `Demand2Frame` and `Demand2Verdict`; an opening at any slot: `Openings`. Demand 3: `Demand3`, and
--- `Demand3Runs` of a program's calls. T as set, and the number that stands for it: `Delays`.
+-- Demand 1: `Demand1`. Demand 2: `Demand2Frame` and `Demand2Verdict`, and of a look-up `LookUpTells`; an opening at any slot:
+-- `Openings`. Demand 3: `Demand3`, and `Demand3Runs` of a program's calls. T as set, and the number that stands for it: `Delays`.
 pub mod Refusals
 pub mod Meaning
 pub mod Opening

@@ -1,10 +1,11 @@
 -- Demand 2, as statements with "there is a word" and "for all words": the frame that a send hands out (`Demand2Frame`), and what a report
--- tells of message t (`Demand2Verdict`).
+-- tells of message t (`Demand2Verdict`). Document 02 §6, in the same words: what a look-up tells of it (`LookUpTells`).
 use mathlib.Core.Path.{_≡_}
-use mathlib.Core.Logic.{_↔_}
+use mathlib.Core.Logic.{_↔_, _⊎_}
 use mathlib.Core.List.{List, List·Memᴰ}
 use Prim.Native.Nat.{ℕ, _+_, _-_, _*_, _%_, _≤_, _<_}
 use lib.Dec.{T}
+use lib.IntN.{ℤ, pos}
 use lib.ListN.{getD, length, take, replicate}
 use Rattle.galois.specs.Byte.{Bytes}
 use Rattle.code.specs.declared.settings.Settings.{Settings}
@@ -13,6 +14,7 @@ use Rattle.code.specs.Word.{OfWord, wordAt}
 use Rattle.code.specs.Fitting.{Arrived, fits}
 use Rattle.protocol.specs.declared.Sender.{Sender}
 use Rattle.protocol.specs.declared.Receiver.{Receiver}
+use Rattle.protocol.specs.declared.Reply.{Reply}
 use Rattle.protocol.specs.Lengths.{lastSlot, messageLen, frameLen, senderLen, rowLen, rowCount, receiverLen}
 use Rattle.protocol.specs.Frame.{header, remembered}
 use Rattle.protocol.specs.Codewords.{source}
@@ -20,6 +22,7 @@ use Rattle.protocol.specs.Rows.{putRow}
 use Rattle.protocol.specs.Verdict.{arrived}
 use Rattle.protocol.specs.Numbers.{answerNumber, replyNumber}
 use Rattle.protocol.specs.Calls.{OpenedSender, openSenderOf, Sent, sendOf, OpenedReceiver, openReceiverOf, Reported}
+use Rattle.protocol.specs.Calls.{Looked, lookUpOf}
 use Rattle.protocol.specs.TwoLists.{Send, SendMade, sends, Report, reportOf, rowOf, ReportMade, reports}
 use Rattle.protocol.specs.Histories.{SentAs, messageAt, accepts, Heard}
 
@@ -109,13 +112,13 @@ AllShare s what byte = (i v : ℕ) → i < kOf s → v < s .lanes → Share s (F
 
 -- ---- the report
 
--- what came of a call tells of a message by what arrived of its codewords: 19 is clash, else 18 lost, else 17 whole, with the bytes
--- that they share
-pub record Tells (s : Settings) (what : ℕ → ℕ → Arrived) (r : Reported) : Type 0 where
-  pub clash : (replyNumber (r .reply) ≡ 19) ↔ SomeClash s what
-  pub lost : (replyNumber (r .reply) ≡ 18) ↔ ((SomeClash s what → ⊥) × SomeLost s what)
-  pub whole : (replyNumber (r .reply) ≡ 17) ↔ ((SomeClash s what → ⊥) × (SomeLost s what → ⊥))
-  pub shared : replyNumber (r .reply) ≡ 17 → AllShare s what (λ i v. getD (r .message) (i * s .lanes + v) 0)
+-- a reply and its message buffer tell of a message by what arrived of its codewords: 19 is clash, else 18 lost, else 17 whole, with the
+-- bytes that they share
+pub record Tells (s : Settings) (what : ℕ → ℕ → Arrived) (reply : Reply) (message : List ℕ) : Type 0 where
+  pub clash : (replyNumber reply ≡ 19) ↔ SomeClash s what
+  pub lost : (replyNumber reply ≡ 18) ↔ ((SomeClash s what → ⊥) × SomeLost s what)
+  pub whole : (replyNumber reply ≡ 17) ↔ ((SomeClash s what → ⊥) × (SomeLost s what → ⊥))
+  pub shared : replyNumber reply ≡ 17 → AllShare s what (λ i v. getD message (i * s .lanes + v) 0)
 
 -- an accepted report of slot due, whatever the rows say: the settings and the opening slot stay, the slot due moves on, its row is
 -- written, 16, "none yet", is told exactly below slot T, the message buffer has its length, and zeros unless the message is whole
@@ -123,7 +126,7 @@ pub record AcceptedReport (s : Settings) (opening due : ℕ) (rows : List ℕ) (
   pub moved : (r .receiver .settings ≡ s) × (r .receiver .opening ≡ opening) × (r .receiver .due ≡ due + 1)
   pub written : r .rows ≡ putRow (rowLen s) (due % rowCount s) (rowOf s call) rows
   pub none-yet : (replyNumber (r .reply) ≡ 16) ↔ (due < delayOf s)
-  pub tells : (t : ℕ) → due ≡ t + delayOf s → Tells s (inTime s (r .rows) t) r
+  pub tells : (t : ℕ) → due ≡ t + delayOf s → Tells s (inTime s (r .rows) t) (r .reply) (r .message)
   pub exact : length (r .message) ≡ messageLen s
   pub zeros : (replyNumber (r .reply) ≡ 17 → ⊥) → r .message ≡ replicate (messageLen s) 0
 
@@ -150,3 +153,29 @@ pub record Demand2Verdict : Type 0 where
       let told : List ReportMade = reports (b .receiver) (b .rows) calls in
       (r : ReportMade) → List·Memᴰ r told → T (accepts (r .after .reply)) → (t : ℕ) → r .before .due ≡ t + delayOf s
       → TrueHistory s told t (inTime s (r .after .rows) t)
+
+-- ---- the look-up
+
+-- an accepted look-up of message t, whatever the rows say: it tells by what arrived in the slots below due, and of no other; the message
+-- buffer has its length, and zeros unless the message is whole
+pub record AcceptedLookUp (s : Settings) (due t : ℕ) (rows : List ℕ) (r : Looked) : Type 0 where
+  pub tells : Tells s (arrived s rows due t) (r .reply) (r .message)
+  pub told : (replyNumber (r .reply) ≡ 17) ⊎ ((replyNumber (r .reply) ≡ 18) ⊎ (replyNumber (r .reply) ≡ 19))
+  pub exact : length (r .message) ≡ messageLen s
+  pub zeros : (replyNumber (r .reply) ≡ 17 → ⊥) → r .message ≡ replicate (messageLen s) 0
+
+-- the number is in reach of a look-up: it is that of message t, from 0 on, whose own slot is reported, and slot t + T is not
+abbrev pub InReach : Settings → ℕ → ℤ → ℕ → Type 0
+InReach s due number t = (number ≡ pos t) × (t < due) × (due ≤ t + delayOf s)
+
+-- document 02 §6: a look-up is accepted exactly if none of causes 1 to 3 holds and the number is in reach, and then it tells of that
+-- message
+pub record LookUpTells : Type 0 where
+  pub taken : (x : Receiver) (rows : List ℕ) (number : ℤ) (message : List ℕ)
+      → let s = x .settings in
+      T (accepts (lookUpOf x rows number message .reply))
+      ↔ (T (accepted s) × (length rows ≡ receiverLen s) × (length message ≡ messageLen s) × (x .due ≤ lastSlot)
+      × ((t : ℕ) × InReach s (x .due) number t))
+  pub by-rows : (x : Receiver) (rows : List ℕ) (number : ℤ) (message : List ℕ)
+      → let r : Looked = lookUpOf x rows number message in
+      T (accepts (r .reply)) → (t : ℕ) → number ≡ pos t → AcceptedLookUp (x .settings) (x .due) t rows r

@@ -50,4 +50,4 @@ pub record Openings : Type 0 where
       → (rows : List ℕ) → length rows ≡ receiverLen s → (call : Report)
       → let b : OpenedReceiver = openReceiverOf s (t + delayOf s) rows in
       let r : Reported = reportOf (b .receiver) (b .rows) call in
-      T (accepts (r .reply)) → Tells s (inTime s (r .rows) t) r × (replyNumber (r .reply) ≡ 16 → ⊥)
+      T (accepts (r .reply)) → Tells s (inTime s (r .rows) t) (r .reply) (r .message) × (replyNumber (r .reply) ≡ 16 → ⊥)

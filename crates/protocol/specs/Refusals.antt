@@ -6,16 +6,17 @@ use mathlib.Core.Bool.{Bool, true, _&&_}
 use mathlib.Core.List.{List, [], _∷_}
 use Prim.Native.Nat.{ℕ}
 use lib.Dec.{T, ltb}
+use lib.IntN.{ℤ}
 use Rattle.code.specs.declared.settings.Settings.{Settings}
 use Rattle.protocol.specs.declared.Sender.{Sender}
 use Rattle.protocol.specs.declared.Receiver.{Receiver}
 use Rattle.protocol.specs.declared.Cause.{Cause}
 use Rattle.protocol.specs.Lengths.{senderLen}
 use Rattle.protocol.specs.States.{noSender, noReceiver}
-use Rattle.protocol.specs.Causes.{numberOf, Row, openTable, openReceiverTable, sendTable, lossTable, frameTable}
+use Rattle.protocol.specs.Causes.{numberOf, Row, openTable, openReceiverTable, sendTable, lossTable, frameTable, lookUpTable}
 use Rattle.protocol.specs.Numbers.{answerNumber, replyNumber}
 use Rattle.protocol.specs.Calls.{OpenedSender, openSenderOf, Sent, sendOf, OpenedReceiver, openReceiverOf}
-use Rattle.protocol.specs.Calls.{Reported, lossOf, heardOf}
+use Rattle.protocol.specs.Calls.{Reported, lossOf, heardOf, Looked, lookUpOf}
 
 -- c is the first cause of the table that holds: its row does, and none above it
 pub data First (c : Cause) : List Row → Type 0 where
@@ -33,7 +34,7 @@ pub record Refuses (table : List Row) (number : ℕ) (Stays : Type 0) : Type 0 w
   pub first : (c : Cause) → (number ≡ numberOf c) ↔ First c table
   pub stays : (c : Cause) → number ≡ numberOf c → Stays
 
--- demand 1, of each of the five calls, with anything at all handed to it
+-- demand 1, of each of the six calls, with anything at all handed to it
 pub record Demand1 : Type 0 where
   -- a refused opening hands back a state of zeros, and the rows as they were
   pub open-sender : (s : Settings) (rows : List ℕ)
@@ -58,3 +59,7 @@ pub record Demand1 : Type 0 where
       → let r : Reported = heardOf x rows frame message in
       Refuses (frameTable x rows frame message) (replyNumber (r .reply))
       ((r .receiver ≡ x) × (r .rows ≡ rows) × (r .message ≡ message))
+  -- a refused look-up leaves the lent message buffer as it was; it is lent the rows to read and the state by value
+  pub look-up : (x : Receiver) (rows : List ℕ) (number : ℤ) (message : List ℕ)
+      → let r : Looked = lookUpOf x rows number message in
+      Refuses (lookUpTable x rows number message) (replyNumber (r .reply)) (r .message ≡ message)

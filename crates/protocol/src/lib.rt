@@ -34,6 +34,7 @@ pub enum Cause {
     OtherSettings,
     OtherSlot,
     LateOpening,
+    OutOfReach,
 }
 
 // What an opening or a send answers; `answerNumber` of specs/Numbers.antt has the numbers.
@@ -42,7 +43,7 @@ pub enum Answer {
     Refused(Cause),
 }
 
-// What a report answers; `replyNumber` of specs/Numbers.antt has the numbers.
+// What a report or a look-up answers; `replyNumber` of specs/Numbers.antt has the numbers.
 pub enum Reply {
     Refused(Cause),
     NoneYet,

@@ -46,6 +46,15 @@ mod c {
             message: *mut u8,
             message_len: usize,
         ) -> u32;
+        pub fn tob_look_up(
+            state: *const u8,
+            state_len: usize,
+            rows: *const u8,
+            rows_len: usize,
+            number: i64,
+            message: *mut u8,
+            message_len: usize,
+        ) -> u32;
     }
 }
 
@@ -127,4 +136,19 @@ pub fn heard(state: &mut [u8], rows: &mut [u8], frame: &[u8], message: &mut [u8]
 /// Reports that the slot due was lost.
 pub fn lost(state: &mut [u8], rows: &mut [u8], message: &mut [u8]) -> u32 {
     unsafe { c::tob_lost(state.as_mut_ptr(), state.len(), rows.as_mut_ptr(), rows.len(), message.as_mut_ptr(), message.len()) }
+}
+
+/// Looks a message up by its number, before its last slot is reported.
+pub fn look_up(state: &[u8], rows: &[u8], number: i64, message: &mut [u8]) -> u32 {
+    unsafe {
+        c::tob_look_up(
+            state.as_ptr(),
+            state.len(),
+            rows.as_ptr(),
+            rows.len(),
+            number,
+            message.as_mut_ptr(),
+            message.len(),
+        )
+    }
 }
