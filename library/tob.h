@@ -37,7 +37,7 @@ extern "C" {
 /* Refused: the settings are not accepted, or the state is not one of this end and so holds none; the state or a buffer
  * has another length than it should; the last slot, 3,999,999,999, is past; a frame of another mark or version, of
  * other settings, or of another slot than the slot due; a receiver is to be opened past the last slot; and a look-up is
- * of a message whose own slot is not reported yet, whose last slot is, or whose number is below 0. */
+ * of a message whose own slot is still to come, whose last slot is past, or whose number is below 0. */
 #define TOB_BAD_SETTINGS 1u
 #define TOB_BAD_LENGTH 2u
 #define TOB_PAST_LAST_SLOT 3u
@@ -104,7 +104,8 @@ uint32_t tob_lost(uint8_t *state, size_t state_len, uint8_t *rows, size_t rows_l
 /* Looks a message up by its number before its last slot, number + D, is reported: what is known of it from the slots
  * reported so far, as if those to come were lost. It may be called between any two reports, as often as wanted: it reads
  * the state and the rows, and writes the message buffer alone, the message where the reply is TOB_WHOLE, else zeros. In
- * reach are the messages t with t < due <= t + D, where due is the slot due; any other number is TOB_OUT_OF_REACH.
+ * reach are the numbers t with 0 <= t < due <= t + D, where due is the slot due, also of messages from before the opening;
+ * any other is TOB_OUT_OF_REACH.
  *
  * When a clerk may show the message: from the first TOB_WHOLE on. Where the frames are the sender's own, every later
  * look-up that is not refused, and the report of the last slot, then say TOB_WHOLE with the same bytes, and they are the

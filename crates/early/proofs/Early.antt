@@ -1,19 +1,18 @@
 -- As early as it can be known: `early-known`, whose statement is `EarlyKnown` of specs/Early.antt.
 use mathlib.Core.Path.{_≡_, refl, sym, ap, _∙_, subst, subst⁻¹}
-use mathlib.Core.Bool.{Bool, true, false, not}
-use mathlib.Core.Logic.{_↔_, ⊎-elim}
-use mathlib.Core.List.{List, [], _∷_, List·Memᴰ, List·Memᴰ·head, List·Memᴰ·tail}
+use mathlib.Core.Bool.{not}
+use mathlib.Core.Logic.{⊎-elim}
+use mathlib.Core.List.{List, List·Memᴰ}
 use Prim.Native.Nat.{ℕ, _+_, _-_, _≤_, _<_}
-use native.Mathlib.Nat.{le-trans}
 use native.Mathlib.Omega.{arith}
 use lib.Dec.{T, lit<}
-use lib.ListN.{length, getD}
+use lib.ListN.{length}
 use Rattle.galois.specs.Byte.{Bytes}
 use Rattle.galois.proofs.Cases.{all-or-one}
 use Rattle.code.specs.declared.settings.Settings.{Settings}
 use Rattle.code.specs.Settings.{accepted, delayOf, kOf, nOf}
-use Rattle.code.specs.Word.{OfWord, wordAt}
-use Rattle.code.specs.Fitting.{Arrived, fits}
+use Rattle.code.specs.Word.{wordAt}
+use Rattle.code.specs.Fitting.{fits}
 use Rattle.code.proofs.Fits.{fits-at, fits-all}
 use Rattle.code.proofs.Shape.{Shape, shape}
 use Rattle.code.proofs.Symbols.{multiplier-below, symbol-source}
@@ -26,7 +25,7 @@ use Rattle.protocol.specs.TwoLists.{Send, SendMade, ReportMade}
 use Rattle.protocol.specs.Histories.{SentAs, messageAt, Heard, lostAt, lostSince}
 use Rattle.protocol.specs.Meaning.{symbolIn, Fitting, SomeClash, Came}
 use Rattle.protocol.specs.Claim.{Faithful}
-use Rattle.protocol.proofs.CauseTables.{passes, OpensAt}
+use Rattle.protocol.proofs.CauseTables.{passes, fails, OpensAt}
 use Rattle.protocol.proofs.SenderList.{sentOf, opened-sent, message-at, sent-before, message-byte, sent-lengths}
 use Rattle.protocol.proofs.TrueWords.{trueMultiplier, true-word}
 use Rattle.protocol.proofs.VerdictMeaning.{verdict-clash, verdict-else, whole-bytes}
@@ -39,7 +38,7 @@ use Rattle.protocol.proofs.Recovery.{Truthful, truly-fits, whole-message}
 use Rattle.protocol.proofs.Demand.{heard-sent, truthful, holds}
 use Rattle.protocol.proofs.Received.{ByVerdict}
 use Rattle.early.specs.Mixed.{Call, CallMade, calls, reportsIn}
-use Rattle.early.specs.Early.{Telling, reportedTo, Later, FitsSoFar, Agree, Early, EarlyKnown}
+use Rattle.early.specs.Early.{Telling, reportedTo, FitsSoFar, Agree, Early, EarlyKnown}
 use Rattle.early.proofs.Lists.{reportCalls, reports-in}
 use Rattle.early.proofs.Points.{Point, Standing, standing}
 
@@ -100,10 +99,6 @@ agree-heard s h told due t frame now heard i v hi hv u w f g =
 
 -- ---- one point of the reports
 
-not-both : (b : Bool) → T b → T (not b) → ⊥
-not-both true y n = n
-not-both false y n = y
-
 -- the sends of an accepted opening, reports from any slot d on, each accepted frame being the sender's own, and a point of them at which
 -- message t can be told
 module _ (s : Settings) (ok : T (accepted s)) (sendCalls : List Send)
@@ -155,7 +150,7 @@ module _ (s : Settings) (ok : T (accepted s)) (sendCalls : List Send)
       any-word b hb = (
         multiplier-below s (λ _. b) (λ _. hb) (kOf s),
         fits-all s (arrived s rows due t 0 0) (trueMultiplier s (shape s ok) (λ _. b))
-            (λ p hp known. absurd (not-both (arrived s rows due t 0 0 .known p) known (nothing p hp))),
+            (λ p hp known. absurd (subst T (fails (arrived s rows due t 0 0 .known p) known) (nothing p hp))),
       )
 
       not-whole : verdict s rows due t ≡ reply.Whole → ⊥
@@ -227,11 +222,10 @@ module _ (s : Settings) (ok : T (accepted s)) (sendCalls : List Send)
     in-time : reportedTo a ≤ t + delayOf s + 1
     in-time = point .tells t (telling .taken) (telling .for-it) .2
 
-  -- what is whole by the rows that one call left is whole, with the same bytes, by those that a later one left
-  stays : (t : ℕ) (a b : CallMade) → Telling s made t a → Telling s made t b → Later a b made → a .after .reply ≡ reply.Whole
-      → (b .after .reply ≡ reply.Whole) × (b .after .message ≡ a .after .message)
-  stays t a b ta tb later whole =
-      let onward : reportedTo a ≤ reportedTo b = le-trans (stand .in-order a b later) (point t b tb .onward) in
+  -- what is whole by the rows that one call left is whole, with the same bytes, by those that one at no earlier slot due left
+  still-whole : (t : ℕ) (a b : CallMade) → Telling s made t a → Telling s made t b → reportedTo a ≤ reportedTo b
+      → a .after .reply ≡ reply.Whole → (b .after .reply ≡ reply.Whole) × (b .after .message ≡ a .after .message)
+  still-whole t a b ta tb onward whole =
       let (still, same) = whole-stays (point t a ta .left) (point t b tb .left) t onward (in-time t b tb) (shape s ok .lanes-positive)
       (fitting s ok sendCalls bytes told begun faithful t (point t b tb .left) (in-time t b tb)) (sym (told-by t a ta .0) ∙ whole) in
       (told-by t b tb .0 ∙ still, told-by t b tb .1 ∙ same ∙ sym (told-by t a ta .1))
@@ -239,7 +233,8 @@ module _ (s : Settings) (ok : T (accepted s)) (sendCalls : List Send)
   all-early : Early s d (sentOf s sendCalls) made
   all-early = record {
     demand3 = holds s ok sendCalls bytes (reportsIn made) begun faithful;
-    stays = stays;
+    stays = λ t a b ta tb later whole.
+        still-whole t a b ta tb (omega (arith, stand .in-order _ _ later, point t b tb .onward)) whole;
     as-early = λ t a ta. (
       λ whole. whole-agree s ok sendCalls bytes told begun faithful t (point t a ta .left) (in-time t a ta) (sym (told-by t a ta .0) ∙ whole),
       λ first sooner agree.

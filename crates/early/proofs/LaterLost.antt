@@ -1,18 +1,18 @@
 -- Later slots are as losses to a look-up: `later-lost`, whose statement is `LaterLost` of specs/Early.antt.
-use mathlib.Core.Path.{_≡_, refl, sym, ap, _∙_, subst, subst⁻¹}
+use mathlib.Core.Path.{_≡_, sym, ap, _∙_, subst}
 use mathlib.Core.List.{List, [], _∷_, List·Memᴰ, List·Memᴰ·head, List·Memᴰ·tail, List·Memᴰ·not-nil, List·Memᴰ·cases-cons}
 use mathlib.Core.Logic.{⊎-elim}
 use Prim.Native.Nat.{ℕ, _+_, _-_, _*_, _%_, _≤_, _<_}
 use native.Mathlib.Omega.{arith}
 use lib.Dec.{T}
-use lib.IntN.{ℤ, pos}
-use lib.ListN.{getD, length, drop, replicate, getD-replicate}
+use lib.IntN.{pos}
+use lib.ListN.{getD, length, drop, getD-replicate}
 use lib.Seq.{getD-drop}
 use Rattle.galois.proofs.Cases.{le-or-lt}
 use Rattle.code.specs.declared.settings.Settings.{Settings}
 use Rattle.code.specs.Settings.{delayOf, kOf}
 use Rattle.code.specs.Fitting.{Arrived}
-use Rattle.code.proofs.Shape.{Shape, shape}
+use Rattle.code.proofs.Shape.{shape}
 use Rattle.elimination.proofs.ValueLaws.{Part, fits-part}
 use Rattle.protocol.specs.declared.Receiver.{Receiver}
 use Rattle.protocol.specs.declared.Reply.{Reply}
@@ -20,20 +20,21 @@ use Rattle.protocol.specs.declared.Reply.the-variants as reply
 use Rattle.protocol.specs.Lengths.{rowLen, rowCount}
 use Rattle.protocol.specs.Numbers.{replyNumber}
 use Rattle.protocol.specs.Verdict.{arrived, verdict, bufferOf}
-use Rattle.protocol.specs.Calls.{Looked, lookUpOf, Reported}
+use Rattle.protocol.specs.Calls.{Looked}
 use Rattle.protocol.specs.TwoLists.{Report, heard, missed, reportOf, ReportMade, reports, rowOf}
-use Rattle.protocol.specs.Histories.{accepts, ofLoss, ReportedAs}
+use Rattle.protocol.specs.Histories.{ofLoss}
 use Rattle.protocol.specs.Meaning.{Fitting, SomeClash, SomeLost}
 use Rattle.protocol.proofs.NumberLaws.{reply-tells}
+use Rattle.protocol.proofs.ReportMeaning.{verdict-one}
 use Rattle.protocol.proofs.VerdictMeaning.{verdict-clash, verdict-lost, verdict-else, whole-bytes, whole-list, buffer-length, buffer-zeros}
 use Rattle.protocol.proofs.ReportCauses.{LossOpen}
 use Rattle.protocol.proofs.ReportChain.{chain}
 use Rattle.protocol.proofs.Received.{told-at}
 use Rattle.protocol.proofs.ReceivedRows.{Begun, Reached, at-first, left-by}
-use Rattle.protocol.proofs.SlotRows.{slotRow, row-reported}
+use Rattle.protocol.proofs.SlotRows.{row-reported}
 use Rattle.protocol.proofs.Arrivals.{known-flag, byte-says}
-use Rattle.protocol.proofs.EarlyVerdict.{arrived-part, share-stays}
-use Rattle.protocol.proofs.LookUps.{look-up-uncaused, look-up-open, look-up-told, told-by-verdict, verdict-one}
+use Rattle.protocol.proofs.EarlyVerdict.{arrived-part}
+use Rattle.protocol.proofs.LookUps.{look-up-uncaused, look-up-open, look-up-told, told-by-verdict}
 use Rattle.early.specs.Early.{LaterLost}
 
 -- ---- the same arrived

@@ -5,7 +5,7 @@ use Prim.Native.Nat.{ℕ}
 use Rattle.protocol.specs.declared.Receiver.{Receiver}
 use Rattle.protocol.specs.Calls.{Reported}
 use Rattle.protocol.specs.TwoLists.{Report, reportOf, reports, ReportMade}
-use Rattle.early.specs.Mixed.{Call, report, lookUp, CallMade, calls, reportsIn}
+use Rattle.early.specs.Mixed.{Call, report, lookUp, calls, reportsIn}
 
 -- the reports among calls that are to be made
 abbrev pub reportCalls : List Call → List Report

@@ -12,7 +12,6 @@ use Rattle.code.specs.declared.settings.Settings.{Settings}
 use Rattle.code.specs.Settings.{delayOf}
 use Rattle.protocol.specs.declared.Receiver.{Receiver}
 use Rattle.protocol.specs.States.{reportedOn}
-use Rattle.protocol.specs.Verdict.{verdict, bufferOf}
 use Rattle.protocol.specs.Calls.{Reported, movedOn, Looked, lookUpOf}
 use Rattle.protocol.specs.TwoLists.{Report, reportOf, ReportMade}
 use Rattle.protocol.specs.Histories.{accepts}
@@ -44,7 +43,7 @@ module _ {s : Settings} {first : ℕ → List ℕ} {d : ℕ} {told : List Report
     pub left : Reached s first d told (m .after .rows) (reportedTo m)
     pub onward : m .before .due ≤ reportedTo m
     pub kept : m .after .receiver .settings ≡ s
-    -- and what it tells of message t it tells by them, once the message's own slot is reported
+    -- and what it tells of message t it tells by them, once the message's own slot is past
     pub tells : (t : ℕ) → T (accepts (m .after .reply)) → IsFor s t (m .before .due) (m .call)
         → ByVerdict s (m .after .rows) (reportedTo m) t (m .after .reply) (m .after .message)
         × (t < reportedTo m) × (reportedTo m ≤ t + delayOf s + 1)

@@ -1,18 +1,16 @@
 -- The calls that a program makes are a mixed list: `early-runs`, whose statement is `EarlyRuns` of specs/Runs.antt.
 use mathlib.Core.Path.{_≡_, refl, ap, _∙_, subst⁻¹}
-use mathlib.Core.List.{List, [], _∷_, map, List·Memᴰ}
+use mathlib.Core.List.{List, [], _∷_, map}
 use Prim.Native.Nat.{ℕ}
-use Rattle.galois.specs.Byte.{Bytes}
-use Rattle.code.specs.declared.settings.Settings.{Settings}
 use Rattle.protocol.specs.declared.Receiver.{Receiver}
 use Rattle.protocol.specs.Calls.{OpenedReceiver, openReceiverOf, Reported}
 use Rattle.protocol.specs.TwoLists.{SendMade}
 use Rattle.protocol.specs.Claim.{Faithful}
-use Rattle.protocol.specs.Runs.{SenderOpened, ReceiverOpened, ReceiverRun}
+use Rattle.protocol.specs.Runs.{ReceiverOpened, ReceiverRun}
 use Rattle.protocol.proofs.Runs.{sendCalls, send-bytes, sentList, sent-listed, sender-exact, receiver-opens}
 use Rattle.early.specs.Mixed.{Call, callOf, CallMade, calls, reportsIn}
 use Rattle.early.specs.Early.{Early, EarlyKnown}
-use Rattle.early.specs.Runs.{CallsRun, CallsOpened, EarlyRuns}
+use Rattle.early.specs.Runs.{CallsRun, EarlyRuns}
 use Rattle.early.proofs.Early.{early-known}
 
 -- a run is a list

@@ -27,7 +27,7 @@ use Rattle.protocol.specs.Numbers.{answerNumber, replyNumber}
 use Rattle.library.specs.Causes.{openBytesTable, openBytesCause, openReceiverBytesCause, sendBytesCause, heardBytesCause, lostBytesCause}
 use Rattle.library.specs.Causes.{lookUpBytesCause}
 use Rattle.library.specs.Calls.{settingsOf, lengthFor, Opening, openSenderBytes, openReceiverBytes, Sending, sendBytes, Reporting, reportedBytes, heardBytes, lostBytes}
-use Rattle.library.specs.Calls.{Looking, lookedBytes, lookUpBytes}
+use Rattle.library.specs.Calls.{lookedBytes, lookUpBytes}
 
 -- ---- lengths
 

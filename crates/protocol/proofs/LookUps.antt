@@ -2,7 +2,7 @@
 -- specs/Meaning.antt.
 use mathlib.Core.Path.{_≡_, refl, sym, ap₂, _∙_, subst, subst⁻¹}
 use mathlib.Core.Bool.{Bool, true, false, true≢false, _||_}
-use mathlib.Core.Logic.{_⊎_, inl, inr, ⊎-elim}
+use mathlib.Core.Logic.{⊎-elim}
 use mathlib.Core.List.{List}
 use Prim.Native.Nat.{ℕ, zero, suc, _+_, _-_}
 use native.Mathlib.Nat.{add-zero}
@@ -23,9 +23,8 @@ use Rattle.protocol.specs.declared.Answer.the-variants as answer
 use Rattle.protocol.specs.declared.Reply.{Reply}
 use Rattle.protocol.specs.declared.Reply.the-variants as reply
 use Rattle.protocol.specs.Lengths.{lastSlot, receiverLen, exactly}
-use Rattle.protocol.specs.Verdict.{byTests, noneFits, twoDiffer, verdict}
+use Rattle.protocol.specs.Verdict.{verdict}
 use Rattle.protocol.specs.Causes.{tooOld, tooNew, outOfReach, lookUpTable, lookUpCause}
-use Rattle.protocol.specs.Numbers.{replyNumber}
 use Rattle.protocol.specs.Calls.{Looked, tellOf, lookUpOf}
 use Rattle.protocol.specs.Histories.{accepts}
 use Rattle.protocol.specs.Meaning.{InReach, AcceptedLookUp, LookUpTells}
@@ -34,7 +33,7 @@ use Rattle.protocol.proofs.ReportCauses.{LossOpen}
 use Rattle.protocol.proofs.VerdictMeaning.{buffer-length, buffer-zeros}
 use Rattle.protocol.proofs.ReportRows.{verdict-accepts}
 use Rattle.protocol.proofs.Received.{ByVerdict}
-use Rattle.protocol.proofs.ReportMeaning.{tells}
+use Rattle.protocol.proofs.ReportMeaning.{tells, verdict-one}
 
 -- ---- the messages in reach
 
@@ -55,7 +54,7 @@ neither : (a b : Bool) → a || b ≡ false → (a ≡ false) × (b ≡ false)
 neither true b e = absurd (true≢false e)
 neither false b e = (refl, e)
 
--- a message is in reach exactly if it is message t, whose own slot is reported and whose last one is not
+-- a message is in reach exactly if it is message t, whose own slot is past and whose last one is not
 pub reach-told : (s : Settings) (due : ℕ) (number : ℤ) → outOfReach s due number ≡ false → (t : ℕ) × InReach s due number t
 unfolding outOfReach
 reach-told s due (pos t) e =
@@ -138,17 +137,6 @@ module _ (x : Receiver) (rows : List ℕ) (number : ℤ) (message : List ℕ) wh
 
 -- ---- what it tells
 
--- a verdict is whole, lost or clash
-pub verdict-one : (s : Settings) (rows : List ℕ) (due t : ℕ)
-    → let n = replyNumber (verdict s rows due t) in (n ≡ 17) ⊎ ((n ≡ 18) ⊎ (n ≡ 19))
-unfolding verdict
-verdict-one s rows due t = go (noneFits s rows due t) (twoDiffer s rows due t)
-  where
-    go : (a b : Bool) → let n = replyNumber (byTests a b) in (n ≡ 17) ⊎ ((n ≡ 18) ⊎ (n ≡ 19))
-    go true b = inr (inr refl)
-    go false true = inr (inl refl)
-    go false false = inl refl
-
 -- what is told by the verdict, with its buffer
 pub told-by-verdict : (s : Settings) (rows : List ℕ) (due t : ℕ)
     → ByVerdict s rows due t (tellOf s rows due t .reply) (tellOf s rows due t .message)
@@ -169,7 +157,7 @@ accepted-look-up s due t rows =
 -- document 02 §6. Wrong look-ups that agree with themselves, and what in the statement rules each out:
 -- - one that reads the row of the slot due, which is an old slot's: `tells` has what arrived below the slot due alone
 -- - whole as soon as the message's own slot was heard: 17 is told only where every codeword that carries it has a fitting word
--- - the message of the slot just reported refused, or one whose last slot is reported told: `taken` says which are accepted
+-- - the message of the slot just reported refused, or one whose last slot is past told: `taken` says which are accepted
 -- - the buffer left as it was on lost: `zeros`
 pub look-up-tells : LookUpTells
 look-up-tells = record {

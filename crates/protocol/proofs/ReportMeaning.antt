@@ -1,12 +1,11 @@
 -- Demand 2, the receiver: `demand2-verdict`, whose statement is `Demand2Verdict` of specs/Meaning.antt.
-use mathlib.Core.Path.{_≡_, refl, sym, ap, _∙_, subst, subst⁻¹}
+use mathlib.Core.Path.{_≡_, refl, ap, subst, subst⁻¹}
 use mathlib.Core.Bool.{Bool, true, false, cond}
-use mathlib.Core.Logic.{_↔_}
+use mathlib.Core.Logic.{_↔_, _⊎_, inl, inr, ⊎-elim}
 use mathlib.Core.List.{List}
-use Prim.Native.Nat.{ℕ, _+_, _*_, _%_}
+use Prim.Native.Nat.{ℕ, _+_, _%_}
 use native.Mathlib.Omega.{arith}
 use lib.Dec.{T, ltb, ltb→lt, lt→ltb}
-use lib.ListN.{getD}
 use Rattle.code.specs.declared.settings.Settings.{Settings}
 use Rattle.code.specs.Settings.{delayOf}
 use Rattle.protocol.specs.declared.Receiver.{Receiver}
@@ -22,7 +21,7 @@ use Rattle.protocol.specs.Numbers.{replyNumber}
 use Rattle.protocol.specs.Calls.{Reported, rowBefore, messageDue, movedOn, lossOf, heardOf, openReceiverOf}
 use Rattle.protocol.specs.TwoLists.{Report, heard, missed, reportOf, rowOf, reports}
 use Rattle.protocol.specs.Histories.{accepts}
-use Rattle.protocol.specs.Meaning.{AllShare, Tells, AcceptedReport, Demand2Verdict}
+use Rattle.protocol.specs.Meaning.{Tells, AcceptedReport, Demand2Verdict}
 use Rattle.protocol.proofs.NumberLaws.{reply-tells}
 use Rattle.protocol.proofs.VerdictMeaning.{verdict-clash, verdict-lost, verdict-else, whole-bytes, buffer-length, buffer-zeros}
 use Rattle.protocol.proofs.ReportSteps.{heard-moves, heard-stays, loss-moves, loss-stays}
@@ -60,15 +59,21 @@ module _ (s : Settings) (rows : List ℕ) (due t : ℕ) where
 
 -- ---- by the rows
 
--- a verdict is never none yet
-verdict-told : (s : Settings) (rows : List ℕ) (due t : ℕ) → replyNumber (verdict s rows due t) ≡ 16 → ⊥
+-- a verdict is whole, lost or clash
+pub verdict-one : (s : Settings) (rows : List ℕ) (due t : ℕ)
+    → let n = replyNumber (verdict s rows due t) in (n ≡ 17) ⊎ ((n ≡ 18) ⊎ (n ≡ 19))
 unfolding verdict
-verdict-told s rows due t = go (noneFits s rows due t) (twoDiffer s rows due t)
+verdict-one s rows due t = go (noneFits s rows due t) (twoDiffer s rows due t)
   where
-    go : (a b : Bool) → replyNumber (byTests a b) ≡ 16 → ⊥
-    go true b e = omega arith
-    go false true e = omega arith
-    go false false e = omega arith
+    go : (a b : Bool) → let n = replyNumber (byTests a b) in (n ≡ 17) ⊎ ((n ≡ 18) ⊎ (n ≡ 19))
+    go true b = inr (inr refl)
+    go false true = inr (inl refl)
+    go false false = inl refl
+
+-- and so never none yet
+verdict-told : (s : Settings) (rows : List ℕ) (due t : ℕ) → replyNumber (verdict s rows due t) ≡ 16 → ⊥
+verdict-told s rows due t e =
+    ⊎-elim (λ n. omega arith) (λ rest. ⊎-elim (λ n. omega arith) (λ n. omega arith) rest) (verdict-one s rows due t)
 
 moved-report : (x : Receiver) (call : Report) (rows : List ℕ)
     → AcceptedReport (x .settings) (x .opening) (x .due) rows call (movedOn x (rowOf (x .settings) call) rows)

@@ -79,11 +79,11 @@ sendTable x rows message frame =
 abbrev pub lossTable : Receiver → List ℕ → List ℕ → List Row
 lossTable x rows message = let s = x .settings in slotTable s (exactly s (receiverLen s) (length rows) (length message)) (x .due)
 
--- a message below the slot due less T: its last slot is reported
+-- a message below the slot due less T: its last slot is past
 abbrev pub tooOld : Settings → ℕ → ℤ → Bool
 tooOld s due number = ltZ number (pos due -ℤ pos (delayOf s))
 
--- one that is not below the slot due: its own slot is not reported
+-- one that is not below the slot due: its own slot is still to come
 abbrev pub tooNew : ℕ → ℤ → Bool
 tooNew due number = leZ (pos due) number
 

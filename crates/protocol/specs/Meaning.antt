@@ -164,7 +164,7 @@ pub record AcceptedLookUp (s : Settings) (due t : ℕ) (rows : List ℕ) (r : Lo
   pub exact : length (r .message) ≡ messageLen s
   pub zeros : (replyNumber (r .reply) ≡ 17 → ⊥) → r .message ≡ replicate (messageLen s) 0
 
--- the number is in reach of a look-up: it is that of message t, from 0 on, whose own slot is reported, and slot t + T is not
+-- the number is in reach of a look-up: it is that of message t, from 0 on, whose own slot is past, and slot t + T is not
 abbrev pub InReach : Settings → ℕ → ℤ → ℕ → Type 0
 InReach s due number t = (number ≡ pos t) × (t < due) × (due ≤ t + delayOf s)
 
