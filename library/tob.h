@@ -103,9 +103,9 @@ uint32_t tob_lost(uint8_t *state, size_t state_len, uint8_t *rows, size_t rows_l
 
 /* Looks a message up by its number before its last slot, number + D, is reported: what is known of it from the slots
  * reported so far, as if those to come were lost. It may be called between any two reports, as often as wanted: it reads
- * the state and the rows, and writes the message buffer alone, the message where the reply is TOB_WHOLE, else zeros. In
- * reach are the numbers t with 0 <= t < due <= t + D, where due is the slot due, also of messages from before the opening;
- * any other is TOB_OUT_OF_REACH.
+ * the state and the rows, and writes the message buffer alone, the message where the reply is TOB_WHOLE, else zeros.
+ * In reach are the numbers t with 0 <= t < due <= t + D, where due is the slot due, and so also messages from before
+ * the opening; any other is TOB_OUT_OF_REACH.
  *
  * When a clerk may show the message: from the first TOB_WHOLE on. Where the frames are the sender's own, every later
  * look-up that is not refused, and the report of the last slot, then say TOB_WHOLE with the same bytes, and they are the
