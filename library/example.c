@@ -1,7 +1,7 @@
 /* Both ends of a link in one program: numbered messages, a loss pattern, and what the receiver says of each slot, beside
  * a second one that is switched on in the middle. After each slot the messages in reach are looked up, and with each
- * message is printed since when it was known. Returns 1 if a message under fair losses does not come out whole, as it
- * was sent, or one that was known does not stay so. */
+ * message is printed since when it was known. Last, what both heard is checked as a pair of recordings. Returns 1 if a
+ * message under fair losses does not come out whole, as it was sent, or one that was known does not stay so. */
 #include <stdbool.h>
 #include <stdio.h>
 #include <stdlib.h>
@@ -55,12 +55,13 @@ static uint8_t *lend(size_t len)
     return bytes;
 }
 
-/* A receiver: the slot that it was opened at, its state, its rows, and the slot by which each message was known, or
- * NEVER. */
+/* A receiver: the slot that it was opened at, its state, its rows, the slot by which each message was known, or NEVER,
+ * and a recording of the frames that it heard. */
 enum { NEVER = -1 };
 struct receiver {
     int opening, known[SLOTS];
-    uint8_t state[TOB_STATE_LEN], *rows;
+    uint8_t state[TOB_STATE_LEN], *rows, *recording;
+    size_t recording_len;
 };
 
 /* Opens it. */
@@ -70,6 +71,8 @@ static bool switch_on(struct receiver *r, int slot)
     for (int t = 0; t < SLOTS; t++)
         r->known[t] = NEVER;
     r->rows = lend(tob_receiver_len(settings));
+    r->recording = lend(SLOTS * tob_frame_len(settings));
+    r->recording_len = 0;
     return tob_open_receiver_at(settings, (uint32_t)slot, r->state, sizeof r->state, r->rows,
                                 tob_receiver_len(settings)) == TOB_ACCEPTED;
 }
@@ -93,6 +96,13 @@ static bool look_up(struct receiver *r, int slot)
     }
     free(out), free(message);
     return good;
+}
+
+/* Keeps a frame that was heard, behind those before it. */
+static void record(struct receiver *r, const uint8_t *frame)
+{
+    memcpy(r->recording + r->recording_len, frame, tob_frame_len(settings));
+    r->recording_len += tob_frame_len(settings);
 }
 
 /* Reports the slot's frame, or that it was lost, and prints the reply. False if a message that is promised, or was known,
@@ -120,13 +130,49 @@ static bool report(struct receiver *r, int slot, const uint8_t *frame, bool show
     bool promised = t >= 0 && (before || is_fair(t, r->opening));
     bool good = !promised || (reply == TOB_WHOLE && memcmp(out, message, message_len) == 0);
     free(out), free(message);
+    if (!is_lost(slot))
+        record(r, frame);
     return look_up(r, slot) && good;
+}
+
+/* The check of what both heard, as two aerials of one set would record it. */
+static uint32_t check_pair(const struct receiver *first, const struct receiver *second)
+{
+    return tob_pair_cause(settings, first->recording, first->recording_len, second->recording, second->recording_len);
+}
+
+/* Checks the pair, and again with the last byte changed of the last frame, which both have. Prints the replies. */
+static bool check_pairs(const struct receiver *first, struct receiver *second)
+{
+    uint32_t as_heard = check_pair(first, second);
+    second->recording[second->recording_len - 1] ^= 1;
+    uint32_t changed = check_pair(first, second);
+    printf("what both heard, as a pair: %u\nwith a byte of it changed: %u\n", (unsigned)as_heard, (unsigned)changed);
+    return as_heard == TOB_ACCEPTED && changed == TOB_UNLIKE_FRAMES;
+}
+
+/* Refused: the last frame is not that of the slot that is due now, a sender's state is no receiver's, there is no slot
+ * 4,000,000,000 to open a receiver at, and nothing was reported of the message that is due now. */
+static bool all_refused(uint8_t *sender, struct receiver *first, struct receiver *late, const uint8_t *frame)
+{
+    size_t rows_len = tob_receiver_len(settings), message_len = tob_message_len(settings);
+    uint8_t *out = lend(message_len);
+    uint32_t again = tob_heard(first->state, sizeof first->state, first->rows, rows_len, frame,
+                               tob_frame_len(settings), out, message_len);
+    uint32_t of_sender = tob_lost(sender, TOB_STATE_LEN, first->rows, rows_len, out, message_len);
+    uint32_t past = tob_open_receiver_at(settings, 4000000000u, late->state, sizeof late->state, late->rows, rows_len);
+    uint32_t to_come = tob_look_up(first->state, sizeof first->state, first->rows, rows_len, SLOTS, out, message_len);
+    free(out);
+    printf("the last frame again: refused\nwith the sender's state: refused\nopened past the last slot: refused\n"
+           "a message to come looked up: refused\n");
+    return again == TOB_OTHER_SLOT && of_sender == TOB_BAD_SETTINGS && past == TOB_LATE_OPENING
+           && to_come == TOB_OUT_OF_REACH;
 }
 
 int main(void)
 {
     size_t message_len = tob_message_len(settings), frame_len = tob_frame_len(settings);
-    size_t sender_len = tob_sender_len(settings), receiver_len = tob_receiver_len(settings);
+    size_t sender_len = tob_sender_len(settings);
     uint8_t sender[TOB_STATE_LEN];
     struct receiver first, late;
     uint8_t *sender_rows = lend(sender_len), *message = lend(message_len), *frame = lend(frame_len);
@@ -149,22 +195,10 @@ int main(void)
         good = report(&late, slot, frame, slot <= SHOWN) && good;
     }
 
-    /* Refused: the last frame is not that of the slot that is due now, a sender's state is no receiver's, there is no slot
-     * 4,000,000,000 to open a receiver at, and nothing was reported of the message that is due now. */
-    if (tob_heard(first.state, sizeof first.state, first.rows, receiver_len, frame, frame_len, message, message_len)
-        != TOB_OTHER_SLOT)
-        good = false;
-    if (tob_lost(sender, sizeof sender, first.rows, receiver_len, message, message_len) != TOB_BAD_SETTINGS)
-        good = false;
-    if (tob_open_receiver_at(settings, 4000000000u, late.state, sizeof late.state, late.rows, receiver_len)
-        != TOB_LATE_OPENING)
-        good = false;
-    if (tob_look_up(first.state, sizeof first.state, first.rows, receiver_len, SLOTS, message, message_len)
-        != TOB_OUT_OF_REACH)
-        good = false;
-    printf("the last frame again: refused\nwith the sender's state: refused\nopened past the last slot: refused\n"
-           "a message to come looked up: refused\n%s\n",
-           good ? "good" : "bad");
+    good = all_refused(sender, &first, &late, frame) && good;
+    good = check_pairs(&first, &late) && good;
+    printf("%s\n", good ? "good" : "bad");
     free(sender_rows), free(first.rows), free(late.rows), free(message), free(frame);
+    free(first.recording), free(late.recording);
     return good ? 0 : 1;
 }

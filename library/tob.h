@@ -8,7 +8,7 @@
  * and the rows, as long as tob_sender_len or tob_receiver_len says. An opening fills both, and every later call gets
  * both as the call before it left them. A message is as long as tob_message_len says, and a frame as tob_frame_len says.
  *
- * Each call says by one number what became of it. With one of the eight causes, 1 to 8, it is refused and changes no byte
+ * Each call says by one number what became of it. With one of the ten causes, 1 to 10, it is refused and changes no byte
  * that it was lent. The causes are checked in the order of their numbers, and the first that holds is the reply. Of a
  * state of another length no settings can be read, so there TOB_BAD_LENGTH comes before TOB_BAD_SETTINGS. Below, the
  * replies of each call stand in the order of checking.
@@ -31,13 +31,15 @@ extern "C" {
 #define TOB_SETTINGS_LEN 5
 #define TOB_STATE_LEN 20
 
-/* An opening or a send: accepted. */
+/* An opening, a send or a pair of recordings: accepted. */
 #define TOB_ACCEPTED 0u
 
 /* Refused: the settings are not accepted, or the state is not one of this end and so holds none; the state or a buffer
- * has another length than it should; the last slot, 3,999,999,999, is past; a frame of another mark or version, of
- * other settings, or of another slot than the slot due; a receiver is to be opened past the last slot; and a look-up is
- * of a message whose own slot is still to come, whose last slot is past, or whose number is below 0. */
+ * has another length than it should, or a recording is longer than 64 KiB or not a whole number of frames; the last
+ * slot, 3,999,999,999, is past; a frame of another mark or version, of other settings, or of another slot than the
+ * slot due; a receiver is to be opened past the last slot; a look-up is of a message whose own slot is still to come,
+ * whose last slot is past, or whose number is below 0; a recording has a slot that is not above the one before it; and
+ * two recordings both have a slot, and any byte of its two frames differs. */
 #define TOB_BAD_SETTINGS 1u
 #define TOB_BAD_LENGTH 2u
 #define TOB_PAST_LAST_SLOT 3u
@@ -46,6 +48,8 @@ extern "C" {
 #define TOB_OTHER_SLOT 6u
 #define TOB_LATE_OPENING 7u
 #define TOB_OUT_OF_REACH 8u
+#define TOB_FALLING_SLOTS 9u
+#define TOB_UNLIKE_FRAMES 10u
 
 /* A report or a look-up, accepted: it is too early for a message, which only a report says; the message is whole, and
  * handed out; it is lost; or the frames contradict each other. */
@@ -116,6 +120,20 @@ uint32_t tob_lost(uint8_t *state, size_t state_len, uint8_t *rows, size_t rows_l
  * TOB_OUT_OF_REACH, or else TOB_WHOLE, TOB_LOST or TOB_CLASH. */
 uint32_t tob_look_up(const uint8_t *state, size_t state_len, const uint8_t *rows, size_t rows_len, int64_t number,
                      uint8_t *message, size_t message_len);
+
+/* Checks two recordings of one meeting, that of the first aerial and that of the second, beside the settings of a
+ * receiver; it writes nothing. A recording is the frames that were heard, back to back, by rising slots; a slot that
+ * was lost has none. An empty recording is accepted, and slots past the last are no cause. Each cause is looked for in
+ * both recordings, in every frame, before the next. The settings are lent on their own, so TOB_BAD_SETTINGS comes
+ * before TOB_BAD_LENGTH.
+ *
+ * An accepted pair can be fed to a receiver opened with these settings, slot by slot from its opening slot: the frame
+ * of whichever recording has the slot, the first's where both do, to tob_heard, and tob_lost where neither has it.
+ * None of these reports is then refused with TOB_OTHER_MARK, TOB_OTHER_SETTINGS or TOB_OTHER_SLOT.
+ * TOB_BAD_SETTINGS, TOB_BAD_LENGTH (a recording longer than 64 KiB, 65,536 bytes, or not a whole number of frames),
+ * TOB_OTHER_MARK, TOB_OTHER_SETTINGS, TOB_FALLING_SLOTS, TOB_UNLIKE_FRAMES, or else TOB_ACCEPTED. */
+uint32_t tob_pair_cause(const uint8_t settings[TOB_SETTINGS_LEN], const uint8_t *first, size_t first_len,
+                        const uint8_t *second, size_t second_len);
 
 #ifdef __cplusplus
 }

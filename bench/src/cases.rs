@@ -165,16 +165,14 @@ fn reporting(engine: Engine, settings: &Settings, due: u32, lost: &[u32]) -> Cas
     let first = rows_before(settings);
     let last = first + sizes(settings).delay as u32;
     for slot in 0..last {
-        let message = sender.draws.bytes(sender.length);
-        sender.send(&message);
+        sender.send_drawn();
         let gone = slot >= first && lost.contains(&(slot - first));
         match gone {
             true => (maker.lost)(&mut state, &mut rows, &mut out),
             false => (maker.heard)(&mut state, &mut rows, &sender.frame, &mut out),
         };
     }
-    let message = sender.draws.bytes(sender.length);
-    sender.send(&message);
+    sender.send_drawn();
     let count = rows.len() / (sender.frame.len() - 13);
     let row = (due + last) as usize % count * (sender.frame.len() - 13);
     assert_eq!((engine.open_receiver)(settings, &mut state, &mut rows.clone()), 0);
@@ -183,11 +181,11 @@ fn reporting(engine: Engine, settings: &Settings, due: u32, lost: &[u32]) -> Cas
 }
 
 /// A sender and its last frame.
-struct Sender {
+pub struct Sender {
     engine: Engine,
     state: State,
     rows: Vec<u8>,
-    frame: Vec<u8>,
+    pub frame: Vec<u8>,
     /// The length of a message.
     length: usize,
     draws: Draws,
@@ -195,7 +193,7 @@ struct Sender {
 
 impl Sender {
     /// Opened afresh, at this slot due.
-    fn open(engine: Engine, settings: &Settings, due: u32) -> Sender {
+    pub fn open(engine: Engine, settings: &Settings, due: u32) -> Sender {
         let (mut state, mut rows) = ([0; STATE_LEN], vec![0; sender::sender_len(settings)]);
         assert_eq!((engine.open_sender)(settings, &mut state, &mut rows), 0);
         engine.set_due(&mut state, due);
@@ -206,5 +204,11 @@ impl Sender {
     /// Sends a message in the slot due.
     fn send(&mut self, message: &[u8]) {
         assert_eq!((self.engine.send)(&mut self.state, &mut self.rows, message, &mut self.frame), 0);
+    }
+
+    /// Sends drawn bytes.
+    pub fn send_drawn(&mut self) {
+        let message = self.draws.bytes(self.length);
+        self.send(&message);
     }
 }

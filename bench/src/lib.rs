@@ -3,6 +3,7 @@
 pub mod alike;
 pub mod cases;
 pub mod engine;
+pub mod joiner;
 pub mod link;
 pub mod measure;
 pub mod peers;

@@ -18,6 +18,8 @@ pub mod reply {
     pub const MARK: u32 = 4;
     pub const OTHER_SETTINGS: u32 = 5;
     pub const NOT_DUE: u32 = 6;
+    pub const NOT_RISING: u32 = 9;
+    pub const DIFFERENT: u32 = 10;
     pub const NONE_YET: u32 = 16;
     pub const WHOLE: u32 = 17;
     pub const LOST: u32 = 18;

@@ -1,7 +1,8 @@
-//! Times of our library, of two Rust versions and of two known libraries, in one table.
+//! Times of our library, of two Rust versions and of two known libraries, in one table, and of the joiner in another.
 
 use bench::cases::{Case, Operation};
 use bench::engine::{self, Engine};
+use bench::joiner::{self, Joiner};
 use bench::measure::{repeated, times};
 use bench::peers::Peers;
 use bench::shapes::SHAPES;
@@ -14,15 +15,17 @@ fn main() {
     header();
     let ours = engine::ours();
     if ours.is_none() {
-        println!("Our library is not linked (target/staticlib/libtob.a is missing): the table goes without it.");
+        println!("Ours is not linked (target/staticlib lacks libtob.a or libmeasured.a): the tables go without it.");
     }
     let engines: Vec<Engine> = ours.into_iter().chain([engine::plain(), engine::planes()]).collect();
+    let joiners: Vec<Joiner> = joiner::ours().into_iter().chain([joiner::plain(), joiner::quick()]).collect();
     let (peers, words) = Peers::load();
     words.iter().for_each(|word| println!("{word}"));
-    self_check(&engines);
+    self_check(&engines, &joiners);
     restoring();
     let lines = table::lines(&engines, &peers);
     table::print(&lines);
+    joining(&joiners);
     verdicts::against_plain(&lines);
     verdicts::in_units(&lines);
     for &engine in engines.iter().filter(|engine| engine.name != "planes") {
@@ -55,7 +58,7 @@ fn header() {
 }
 
 /// Nothing is timed that gives other bytes than the reference.
-fn self_check(engines: &[Engine]) {
+fn self_check(engines: &[Engine], joiners: &[Joiner]) {
     for shape in SHAPES {
         for lanes in [1, 16, 32, 64] {
             alike::check(engines, &shape.settings(lanes), if lanes == 1 { 80 } else { 25 });
@@ -63,6 +66,17 @@ fn self_check(engines: &[Engine]) {
     }
     let names: Vec<&str> = engines.iter().map(|engine| engine.name).collect();
     println!("Self-check: {} and the reference give the same frames, replies, messages and rows.", names.join(", "));
+    joiner::alike::check(joiners);
+    let names: Vec<&str> = joiners.iter().map(|joiner| joiner.name).collect();
+    println!("Of pairs of recordings, {} and the reference give the same causes, parts and counts.", names.join(", "));
+}
+
+/// The table of the joiner, and what holds of it.
+fn joining(joiners: &[Joiner]) {
+    let lines = joiner::table::lines(joiners);
+    joiner::table::print(&lines);
+    verdicts::joiner_against_plain(&lines);
+    verdicts::joiner_against_quick(&lines);
 }
 
 /// What putting the state back costs in each call.

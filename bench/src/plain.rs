@@ -1,8 +1,10 @@
 //! Document 01 in plain Rust, written for speed with tables: a table of all products of bytes, one of reciprocals, and
 //! logarithms for the narrow numbers. A codeword start takes one elimination, and every call works out everything anew.
+//! The joiner of document 02 §7 stands beside it.
 
 mod decision;
 mod elimination;
+pub mod joiner;
 mod parities;
 mod sums;
 

@@ -100,6 +100,6 @@ pub fn print(lines: &[Line]) {
 }
 
 /// The text, or a dash where there is none.
-fn or_dash(text: Option<String>) -> String {
+pub fn or_dash(text: Option<String>) -> String {
     text.unwrap_or_else(|| "—".into())
 }

@@ -2,6 +2,7 @@
 
 use crate::cases::{Operation, OPERATIONS};
 use crate::engine::Engine;
+use crate::joiner::table as joiner;
 use crate::shapes::{Shape, SHAPES};
 use crate::table::{beside, unit, Line, EARLY};
 
@@ -29,6 +30,32 @@ pub fn against_plain(lines: &[Line]) {
             let (plain, ratio) = (line.plain, ours.median / line.plain.median);
             say(ratio <= 1.0, &format!("{shape} {name}: ours {ours} to plain {plain} ns, ratio {ratio:.2}"));
         }
+    }
+}
+
+/// The joiner of ours beside plain, by medians.
+pub fn joiner_against_plain(lines: &[joiner::Line]) {
+    if lines.iter().all(|line| line.to_plain().is_none()) {
+        return println!("\nWithout our library there is nothing to judge the joiner by.");
+    }
+    let longer = |line: &&joiner::Line| line.to_plain().is_some_and(|ratio| ratio > 1.0);
+    let (all, above) = (lines.len(), lines.iter().filter(longer).count());
+    println!("\nThe joiner takes at most 1.0 times plain in {} of {all} rows, by medians:\n", all - above);
+    for operation in joiner::OPERATIONS {
+        let these = || lines.iter().filter(|line| line.operation == operation);
+        let named = |line: &joiner::Line| format!("{} {:.2}", line.name(), line.to_plain().unwrap_or(0.0));
+        let above: Vec<String> = these().filter(longer).map(named).collect();
+        let text = format!("{}, in {} of {} rows", operation.name(), these().count() - above.len(), these().count());
+        let more = if above.is_empty() { String::new() } else { format!("; above: {}", above.join("; ")) };
+        say(above.is_empty(), &(text + &more));
+    }
+}
+
+/// The joiner of ours beside quick, for the record.
+pub fn joiner_against_quick(lines: &[joiner::Line]) {
+    let ratios = || lines.iter().filter_map(joiner::Line::to_quick);
+    if let (Some(least), Some(most)) = (ratios().reduce(f64::min), ratios().reduce(f64::max)) {
+        println!("\nThe joiner takes {least:.2} to {most:.2} times quick, by medians; nothing is judged by it.");
     }
 }
 

@@ -1,4 +1,4 @@
-//! The seven calls with the things that they are lent, and the library's side of each.
+//! The eight calls with the things that they are lent, and the library's side of each.
 
 use crate::lent::Lent;
 
@@ -11,10 +11,11 @@ pub enum Kind {
     Heard,
     Lost,
     LookUp,
+    PairCause,
 }
 
 impl Kind {
-    pub const ALL: [Kind; 7] = [
+    pub const ALL: [Kind; 8] = [
         Kind::OpenSender,
         Kind::OpenReceiver,
         Kind::OpenReceiverAt,
@@ -22,6 +23,7 @@ impl Kind {
         Kind::Heard,
         Kind::Lost,
         Kind::LookUp,
+        Kind::PairCause,
     ];
 
     pub fn name(self) -> &'static str {
@@ -33,6 +35,7 @@ impl Kind {
             Kind::Heard => "heard",
             Kind::Lost => "lost",
             Kind::LookUp => "look_up",
+            Kind::PairCause => "pair_cause",
         }
     }
 
@@ -47,11 +50,13 @@ impl Kind {
             Kind::Heard => &["state", "rows", "frame", "message"],
             Kind::Lost => &["state", "rows", "message"],
             Kind::LookUp => &["state", "rows", "number", "message"],
+            Kind::PairCause => &["settings", "first", "second"],
         }
     }
 
-    pub fn opens(self) -> bool {
-        matches!(self, Kind::OpenSender | Kind::OpenReceiver | Kind::OpenReceiverAt)
+    /// Whether it is lent the settings on their own, and not in a state.
+    pub fn has_settings(self) -> bool {
+        self.things()[0] == "settings"
     }
 }
 
@@ -87,6 +92,10 @@ impl Call {
     pub fn look_up(state: Vec<u8>, rows: Vec<u8>, number: i64, message: Vec<u8>) -> Call {
         let number = number.to_be_bytes().to_vec();
         Call { kind: Kind::LookUp, things: vec![state, rows, number, message] }
+    }
+
+    pub fn pair_cause(settings: [u8; 5], first: Vec<u8>, second: Vec<u8>) -> Call {
+        Call { kind: Kind::PairCause, things: vec![settings.to_vec(), first, second] }
     }
 
     /// The thing of this name, if the call is lent one.
@@ -141,6 +150,9 @@ pub fn by_library(kind: Kind, lent: &mut [Lent]) -> u32 {
         (Kind::LookUp, [state, rows, number, message]) => {
             let number = message_number_of(number.read());
             tob::look_up(state.read(), rows.read(), number, message.bytes())
+        }
+        (Kind::PairCause, [settings, first, second]) => {
+            tob::pair_cause(settings.settings(), first.read(), second.read())
         }
         _ => unreachable!("a call is lent the things of its kind"),
     }

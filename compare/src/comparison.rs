@@ -58,11 +58,16 @@ impl Comparison {
         Ok(found)
     }
 
-    /// Counts a call and its reply, and of a look-up the number that was out of reach.
+    /// Counts a call and its reply, of a look-up the number that was out of reach, and of a pair
+    /// what its recordings are.
     fn count(&mut self, call: &Call, reply: u32) {
-        self.met.add(call.kind, reply, settings_in(call));
+        let settings = settings_in(call);
+        self.met.add(call.kind, reply, settings);
         if let (Kind::LookUp, 8, Ok(state)) = (call.kind, reply, receiver_of(&call.things[0])) {
             self.met.look_ups.add_out_of_reach(&state, message_number_of(&call.things[2]));
+        }
+        if let (Kind::PairCause, Some(settings)) = (call.kind, settings) {
+            self.met.pairs.add(&settings, [&call.things[1], &call.things[2]], reply);
         }
         self.calls += 1;
     }
@@ -114,8 +119,9 @@ fn any_difference(expected: &Call, lent: &[Lent]) -> Option<String> {
     things.find_map(|((name, lent), due)| Some(format!("{name}, {}", lent.difference(due)?)))
 }
 
-/// The settings of an opening, or those that the state holds.
+/// The settings lent on their own, or those that the state holds.
 fn settings_in(call: &Call) -> Option<Settings> {
-    let bytes = if call.kind.opens() { &call.things[0][..] } else { call.things[0].get(4..9)? };
+    let thing = &call.things[0];
+    let bytes = if call.kind.has_settings() { &thing[..] } else { thing.get(4..9)? };
     Some(settings_of(bytes.try_into().ok()?))
 }

@@ -11,6 +11,7 @@ mod earlier;
 mod lent;
 mod look_ups;
 mod model;
+mod pairs;
 mod report;
 
 use std::process::ExitCode;

@@ -1,6 +1,7 @@
 //! The expected side: the library's interface, worked out by the reference.
 
 use reference::frame;
+use reference::pair::pair_cause;
 use reference::receiver::{self, Reply};
 use reference::sender;
 use reference::settings::Settings;
@@ -117,8 +118,16 @@ pub fn by_reference(kind: Kind, things: &mut [Vec<u8>]) -> u32 {
         (Kind::LookUp, [state, rows, number, message]) => {
             looked_up(state, rows, message_number_of(number), message)
         }
+        (Kind::PairCause, [settings, first, second]) => {
+            pair_cause(&settings_lent(settings), first, second)
+        }
         _ => unreachable!("a call is lent the things of its kind"),
     }
+}
+
+/// The settings that are lent on their own.
+fn settings_lent(bytes: &[u8]) -> Settings {
+    settings_of(bytes.try_into().expect("settings are five bytes"))
 }
 
 /// Both openings of a receiver: the one without a slot is at slot 0.
@@ -145,7 +154,7 @@ fn opened(
     state: &mut [u8],
     open: impl FnOnce(Settings) -> Result<Vec<u8>, Refusal>,
 ) -> u32 {
-    let settings = settings_of(settings.try_into().expect("settings are five bytes"));
+    let settings = settings_lent(settings);
     if settings.accepted() && state.len() != STATE {
         return BAD_LENGTH;
     }
@@ -293,6 +302,26 @@ mod tests {
             assert_eq!(look_up(sender.clone(), [1, 1], number), 1);
             assert_eq!(look_up(sender[1..].to_vec(), [0, 0], number), 2);
         }
+    }
+
+    #[test]
+    fn the_settings_of_a_pair_come_before_its_lengths_and_nothing_is_written() {
+        let of_slot = |slot| frame::of(&settings(), slot, &[7; 4]);
+        let check = |settings: Settings, first: &[u8], second: &[u8]| {
+            let mut call = Call::pair_cause(bytes_of(&settings), first.to_vec(), second.to_vec());
+            let before = call.things.clone();
+            let number = by_reference(call.kind, &mut call.things);
+            assert_eq!(call.things, before);
+            number
+        };
+        let (one, other) = (of_slot(5), Settings { window: 2, ..settings() });
+        assert_eq!(check(settings(), &one, &of_slot(6)), 0);
+        assert_eq!(check(settings(), &one, &[]), 0);
+        assert_eq!(check(settings(), &one, &one[1..]), 2);
+        assert_eq!(check(other, &one, &one[1..]), 1);
+        assert_eq!(check(Settings { delay: 4, ..settings() }, &one, &[]), 5);
+        assert_eq!(check(settings(), &[&one[..], &one].concat(), &one), 9);
+        assert_eq!(check(settings(), &frame::of(&settings(), 5, &[8; 4]), &one), 10);
     }
 
     #[test]

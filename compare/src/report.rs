@@ -7,9 +7,10 @@ use reference::settings::{every_code, Settings};
 use crate::call::Kind;
 use crate::earlier::Earlier;
 use crate::look_ups::LookUps;
+use crate::pairs::Pairs;
 
 /// Every number that a call can reply; a comparison that never met one of them proves little.
-const REPLIES: [u32; 13] = [0, 1, 2, 3, 4, 5, 6, 7, 8, 16, 17, 18, 19];
+const REPLIES: [u32; 15] = [0, 1, 2, 3, 4, 5, 6, 7, 8, 9, 10, 16, 17, 18, 19];
 
 /// The number of accepted (T, B, N).
 const CODES: usize = 372;
@@ -59,11 +60,12 @@ pub struct Met {
     /// by code.
     recovered_when_short: Counts,
     pub look_ups: LookUps,
+    pub pairs: Pairs,
     pub earlier: Earlier,
 }
 
 impl Met {
-    /// One call and its reply; the settings are those of the opening or of the state.
+    /// One call and its reply; the settings are those lent on their own or those of the state.
     pub fn add(&mut self, kind: Kind, reply: u32, settings: Option<Settings>) {
         *self.replies.entry((kind, reply)).or_default() += 1;
         if let (true, Some(s)) = (matches!(reply, 0 | 16..=19), settings) {
@@ -111,6 +113,15 @@ impl Met {
         ]
     }
 
+    /// The same of what look-ups and pairs of recordings must have met, each behind its kind.
+    fn demands(&self) -> Vec<(&'static str, &'static str, &Counts, usize)> {
+        let look_ups = self.look_ups.demands();
+        let look_ups = look_ups.map(|(name, counts, count)| ("look-up", name, counts, count));
+        let pairs = self.pairs.demands();
+        let pairs = pairs.map(|(name, counts, count)| ("pair", name, counts, count));
+        look_ups.into_iter().chain(pairs).collect()
+    }
+
     pub fn calls(&self) -> usize {
         self.replies.values().sum()
     }
@@ -146,10 +157,11 @@ impl Met {
             let (messages, codes) = (grouped(counts.values().sum()), counts.len());
             lines.push(format!("of these, {name}: {messages}, of {codes} (T, B, N)"));
         }
-        for (name, counts, _) in self.look_ups.demands() {
+        for (kind, name, counts, _) in self.demands() {
             let (calls, codes) = (grouped(counts.values().sum()), counts.len());
-            lines.push(format!("look-ups {name}: {calls}, of {codes} (T, B, N)"));
+            lines.push(format!("{kind}s {name}: {calls}, of {codes} (T, B, N)"));
         }
+        lines.push(self.pairs.text());
         let [l, w, t] = [&self.lanes, &self.windows, &self.delays].map(BTreeSet::len);
         lines.push(format!("different L: {l}; different W: {w}; different T as set: {t}"));
         for (name, codes) in self.by_window() {
@@ -188,11 +200,12 @@ impl Met {
             let met = counts.len();
             due(met == count, format!("{met} (T, B, N) had a message {name}, and not {count}"));
         }
-        for (name, counts, count) in self.look_ups.demands() {
+        for (kind, name, counts, count) in self.demands() {
             let met = counts.len();
-            due(met == count, format!("{met} (T, B, N) had a look-up {name}, and not {count}"));
+            due(met == count, format!("{met} (T, B, N) had a {kind} {name}, and not {count}"));
         }
         due(self.lengths > 0 && self.fair > 0, "a part did not run".to_string());
+        missing.extend(self.pairs.missing());
         missing
     }
 }
@@ -224,7 +237,7 @@ fn with_long_bursts() -> usize {
     every_code().iter().filter(|code| code.k() <= usize::from(code.burst)).count()
 }
 
-/// Each cause that document 01's table and document 02 §3 and §6 have for a kind of call.
+/// Each cause that document 01's table and document 02 §3, §6 and §7 have for a kind of call.
 fn refusals(kind: Kind) -> impl Iterator<Item = (Kind, u32)> {
     let causes: &[u32] = match kind {
         Kind::OpenSender | Kind::OpenReceiver => &[1, 2],
@@ -232,6 +245,7 @@ fn refusals(kind: Kind) -> impl Iterator<Item = (Kind, u32)> {
         Kind::Send | Kind::Lost => &[1, 2, 3],
         Kind::Heard => &[1, 2, 3, 4, 5, 6],
         Kind::LookUp => &[1, 2, 3, 8],
+        Kind::PairCause => &[1, 2, 4, 5, 9, 10],
     };
     causes.iter().map(move |cause| (kind, *cause))
 }
@@ -239,7 +253,8 @@ fn refusals(kind: Kind) -> impl Iterator<Item = (Kind, u32)> {
 /// The accepted replies that calls with a code can give.
 fn accepted((delay, burst, scattered): Code) -> BTreeSet<(Kind, u32)> {
     let reports = (16..=19).flat_map(|reply| [(Kind::Heard, reply), (Kind::Lost, reply)]);
-    let others = [Kind::OpenSender, Kind::OpenReceiver, Kind::OpenReceiverAt, Kind::Send];
+    let openings = [Kind::OpenSender, Kind::OpenReceiver, Kind::OpenReceiverAt];
+    let others = openings.into_iter().chain([Kind::Send, Kind::PairCause]);
     let others = others.map(|kind| (kind, 0));
     let look_ups = (17..=19).map(|reply| (Kind::LookUp, reply));
     let mut replies: BTreeSet<_> = reports.chain(others).chain(look_ups).collect();
@@ -388,6 +403,22 @@ mod tests {
     }
 
     #[test]
+    fn each_number_of_a_pair_is_missing_until_every_code_met_it() {
+        let missing = |met: &Met| {
+            let texts = met.missing();
+            texts.iter().filter(|text| text.contains("had a pair")).count()
+        };
+        let mut met = Met::default();
+        for code in every_code() {
+            assert_eq!(missing(&met), 6);
+            for number in [0, 2, 4, 5, 9, 10] {
+                met.pairs.add(&code, [&[], &[]], number);
+            }
+        }
+        assert_eq!(missing(&met), 0);
+    }
+
+    #[test]
     fn each_cause_of_each_kind_of_call_is_missing_until_it_was_met() {
         let mut met = Met::default();
         for (kind, cause) in Kind::ALL.into_iter().flat_map(refusals) {
@@ -397,6 +428,7 @@ mod tests {
             assert!(!met.missing().contains(&text));
         }
         assert!(refusals(Kind::LookUp).map(|(_, cause)| cause).eq([1, 2, 3, 8]));
+        assert!(refusals(Kind::PairCause).map(|(_, cause)| cause).eq([1, 2, 4, 5, 9, 10]));
     }
 
     #[test]

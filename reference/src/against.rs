@@ -1,29 +1,39 @@
-//! Another player beside the reference's: each drawn recording goes to its standard input,
-//! and what it prints must be the transcript, byte for byte.
+//! Another player beside the reference's: each drawn recording goes to its standard input, and of
+//! each drawn pair it is told two files. What it prints must be the transcript, byte for byte.
 
 use std::collections::BTreeMap;
 use std::fs;
 use std::io::{self, Write};
+use std::path::Path;
 use std::process::{Command, Output, Stdio};
 use std::thread;
 use std::time::Duration;
 
 use crate::drawn::{recordings, Recording};
+use crate::drawn_pairs::{pairs, Pair};
 use crate::frame;
 use crate::patterns::Draws;
-use crate::play::transcript;
+use crate::play::{play_pair, transcript};
 
 /// Where a recording goes that is played differently.
 pub const DIFFERENCE: &str = "difference.rec";
 
-/// The outcomes, each of which is to be met at least so often.
+/// Where a pair is written. The files of one that is played differently are kept.
+pub const FILES: [&str; 2] = ["pair.first", "pair.second"];
+
+/// The outcomes of recordings, and those of pairs, each of which is to be met at least so often.
 const OUTCOMES: [&str; 10] = [
     "whole", "lost", "clash", "stop 1", "stop 2", "stop 4", "stop 5", "stop 6", "empty",
     "clean end",
 ];
+const OF_PAIRS: [&str; 12] = [
+    "whole", "lost", "clash", "stop 1", "stop 2", "stop 4", "stop 5", "stop 6", "stop 9",
+    "stop 10", "empty", "clean end",
+];
 const LEAST: usize = 24;
 
-/// How often each outcome was met, and how many recordings were longer than one frame.
+/// How often each outcome was met, and how many recordings, or both recordings of how many pairs,
+/// were longer than one frame.
 #[derive(Debug, Default, PartialEq, Eq)]
 pub struct Met {
     pub outcomes: BTreeMap<String, usize>,
@@ -37,22 +47,44 @@ pub struct Difference {
     pub text: String,
 }
 
-/// Compares the program over all drawn recordings: the text to print, or why it failed.
+/// Compares the program over all drawn recordings and pairs: the text to print, or why it failed.
 pub fn run(program: &str, arguments: &[String]) -> Result<String, String> {
+    let of_recordings = run_recordings(program, arguments)?;
+    let of_pairs = run_pairs(program, arguments)?;
+    Ok(format!("{of_recordings}\n{of_pairs}"))
+}
+
+fn run_recordings(program: &str, arguments: &[String]) -> Result<String, String> {
     let recordings = recordings();
     let met = compare(program, arguments, &recordings).map_err(|difference| {
         let kept = fs::write(DIFFERENCE, &difference.recording);
         let place = kept.map_or_else(|e| e.to_string(), |()| format!("kept in {DIFFERENCE}"));
         format!("{}\n{place}", difference.text)
     })?;
+    let counts = counts(&met, &OUTCOMES)?;
+    let (all, longer) = (grouped(recordings.len()), grouped(met.longer));
+    Ok(format!("against: {all} recordings, all alike\nlonger than one frame: {longer}{counts}"))
+}
+
+/// The pairs are written in the current directory.
+fn run_pairs(program: &str, arguments: &[String]) -> Result<String, String> {
+    let pairs = pairs();
+    let met = compare_pairs(program, arguments, Path::new(""), &pairs)?;
+    let counts = counts(&met, &OF_PAIRS)?;
+    let (all, longer) = (grouped(pairs.len()), grouped(met.longer));
+    Ok(format!("against: {all} pairs, all alike\nboth longer than one frame: {longer}{counts}"))
+}
+
+/// A line for each outcome; it is a failure if one was met too seldom.
+fn counts(met: &Met, outcomes: &[&str]) -> Result<String, String> {
     let count = |outcome: &str| met.outcomes.get(outcome).copied().unwrap_or(0);
-    let counts: String = OUTCOMES.map(|o| format!("\n{o}: {}", grouped(count(o)))).concat();
-    let seldom: Vec<&str> = OUTCOMES.into_iter().filter(|o| count(o) < LEAST).collect();
+    let line = |outcome: &&str| format!("\n{outcome}: {}", grouped(count(outcome)));
+    let counts: String = outcomes.iter().map(line).collect();
+    let seldom: Vec<&str> = outcomes.iter().copied().filter(|o| count(o) < LEAST).collect();
     if !seldom.is_empty() {
         return Err(format!("met too seldom: {}{counts}", seldom.join(", ")));
     }
-    let (all, longer) = (grouped(recordings.len()), grouped(met.longer));
-    Ok(format!("against: {all} recordings, all alike\nlonger than one frame: {longer}{counts}"))
+    Ok(counts)
 }
 
 /// Plays each recording with both, until the first difference.
@@ -74,9 +106,54 @@ pub fn compare(
             let text = format!("recording {number} ({kind}), {length} bytes: {text}");
             return Err(Difference { recording: recording.bytes.clone(), text });
         }
-        met.add(&recording.bytes, &expected);
+        met.add(recording.bytes.is_empty(), &expected);
+        met.longer += usize::from(longer_than_a_frame(&recording.bytes));
     }
     Ok(met)
+}
+
+/// Plays each pair with both, until the first difference, of which it gives a description.
+pub fn compare_pairs(
+    program: &str,
+    arguments: &[String],
+    directory: &Path,
+    pairs: &[Pair],
+) -> Result<Met, String> {
+    let mut met = Met::default();
+    for (number, Pair { kind, first, second }) in pairs.iter().enumerate() {
+        let found = both_of_pair(program, arguments, directory, first, second);
+        let expected = found.map_err(|text| {
+            let lengths = format!("{} and {} bytes", first.len(), second.len());
+            let kept = format!("kept in {}", FILES.join(" and "));
+            format!("pair {number} ({kind}), {lengths}: {text}\n{kept}")
+        })?;
+        met.add(first.is_empty() && second.is_empty(), &expected);
+        met.longer += usize::from(longer_than_a_frame(first) && longer_than_a_frame(second));
+    }
+    let removed = FILES.iter().try_for_each(|file| fs::remove_file(directory.join(file)));
+    removed.map_err(|error| error.to_string())?;
+    Ok(met)
+}
+
+/// What the reference prints for a pair, or how the program differs from it.
+fn both_of_pair(
+    program: &str,
+    arguments: &[String],
+    directory: &Path,
+    first: &[u8],
+    second: &[u8],
+) -> Result<Vec<u8>, String> {
+    let files = FILES.map(|file| directory.join(file));
+    let output = || {
+        fs::write(&files[0], first)?;
+        fs::write(&files[1], second)?;
+        let mut command = Command::new(program);
+        command.args(arguments).args(&files).stdin(Stdio::null()).stderr(Stdio::inherit());
+        command.output()
+    };
+    let output = output().map_err(|error| error.to_string())?;
+    let expected = play_pair(first, second);
+    alike(&expected, &output).map(|()| expected)
 }
 
 /// The lengths of the pieces in which a recording is written: one in ten in small ones.
@@ -147,10 +224,10 @@ fn first_difference(expected: &[u8], printed: &[u8]) -> String {
 }
 
 impl Met {
-    fn add(&mut self, recording: &[u8], printed: &[u8]) {
+    fn add(&mut self, empty: bool, printed: &[u8]) {
         let text = String::from_utf8_lossy(printed);
         let mut outcomes: Vec<&str> = text.lines().map(outcome).collect();
-        if recording.is_empty() {
+        if empty {
             outcomes.push("empty");
         } else if !outcomes.last().is_some_and(|last| last.starts_with("stop")) {
             outcomes.push("clean end");
@@ -158,7 +235,6 @@ impl Met {
         for outcome in outcomes {
             *self.outcomes.entry(outcome.to_string()).or_default() += 1;
         }
-        self.longer += usize::from(longer_than_a_frame(recording));
     }
 }
 

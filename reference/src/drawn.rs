@@ -158,7 +158,7 @@ pub fn set_higher(draws: &mut Draws, code: Settings) -> Settings {
 }
 
 /// A code with a window, seldom a short one, and lanes: seldom many where the code is large.
-fn settings(draws: &mut Draws, code: Settings) -> Settings {
+pub(crate) fn settings(draws: &mut Draws, code: Settings) -> Settings {
     let timed = if draws.below(4) == 0 {
         set_higher(draws, code)
     } else {
@@ -170,7 +170,7 @@ fn settings(draws: &mut Draws, code: Settings) -> Settings {
 }
 
 /// All frames, or those that bursts of up to B + 2 losses leave.
-fn heard(draws: &mut Draws, settings: &Settings, frames: &Frames) -> Frames {
+pub(crate) fn heard(draws: &mut Draws, settings: &Settings, frames: &Frames) -> Frames {
     if draws.below(3) == 0 {
         return frames.clone();
     }
@@ -184,11 +184,11 @@ fn heard(draws: &mut Draws, settings: &Settings, frames: &Frames) -> Frames {
 }
 
 /// Makes another byte of this one.
-fn change(draws: &mut Draws, byte: &mut u8) {
+pub(crate) fn change(draws: &mut Draws, byte: &mut u8) {
     *byte ^= (draws.below(255) + 1) as u8;
 }
 
-fn damage(draws: &mut Draws, frames: &mut Frames) {
+pub(crate) fn damage(draws: &mut Draws, frames: &mut Frames) {
     for _ in 0..draws.below(3) + 1 {
         let at = draws.below(frames.len());
         let place = HEADER + draws.below(frames[at].len() - HEADER);
@@ -196,13 +196,13 @@ fn damage(draws: &mut Draws, frames: &mut Frames) {
     }
 }
 
-fn change_header(draws: &mut Draws, frames: &mut Frames) {
+pub(crate) fn change_header(draws: &mut Draws, frames: &mut Frames) {
     let at = draws.below(frames.len());
     let place = draws.below(HEADER);
     change(draws, &mut frames[at][place]);
 }
 
-fn rearrange(draws: &mut Draws, frames: &mut Frames) {
+pub(crate) fn rearrange(draws: &mut Draws, frames: &mut Frames) {
     let at = draws.below(frames.len());
     match draws.below(3) {
         0 => drop(frames.remove(at)),
@@ -215,7 +215,7 @@ fn rearrange(draws: &mut Draws, frames: &mut Frames) {
 }
 
 /// Every slot so much higher.
-fn raise(frames: &mut [Vec<u8>], by: u32) {
+pub(crate) fn raise(frames: &mut [Vec<u8>], by: u32) {
     for frame in frames {
         let slot = frame::slot(frame).wrapping_add(by);
         set_slot(frame, slot);
@@ -223,7 +223,7 @@ fn raise(frames: &mut [Vec<u8>], by: u32) {
 }
 
 /// Another slot for a frame alone, or for it and with the same step for all later ones.
-fn change_slot(draws: &mut Draws, frames: &mut Frames) {
+pub(crate) fn change_slot(draws: &mut Draws, frames: &mut Frames) {
     let at = draws.below(frames.len());
     let before = at.checked_sub(1).map(|before| frame::slot(&frames[before]));
     let due = before.map_or(0, |slot| slot.wrapping_add(1));
@@ -238,7 +238,7 @@ fn change_slot(draws: &mut Draws, frames: &mut Frames) {
 }
 
 /// One of W, T, B, N and L of one frame, in one of three times the first.
-fn change_settings(draws: &mut Draws, frames: &mut Frames) {
+pub(crate) fn change_settings(draws: &mut Draws, frames: &mut Frames) {
     let any = draws.below(frames.len());
     let at = if draws.below(3) == 0 { 0 } else { any };
     let place = 5 + draws.below(5);
@@ -248,7 +248,7 @@ fn change_settings(draws: &mut Draws, frames: &mut Frames) {
 }
 
 /// One frame with any of the causes 4, 5 and 6.
-fn give_causes(draws: &mut Draws, frames: &mut Frames) {
+pub(crate) fn give_causes(draws: &mut Draws, frames: &mut Frames) {
     let at = draws.below(frames.len());
     let causes = draws.below(7) + 1;
     for (cause, from, count) in [(1, 0, 5), (2, 5, 5), (4, 10, 3)] {
@@ -271,7 +271,7 @@ fn change_code(draws: &mut Draws, frames: &mut Frames) {
     }
 }
 
-fn draw_bodies(draws: &mut Draws, frames: &mut Frames) {
+pub(crate) fn draw_bodies(draws: &mut Draws, frames: &mut Frames) {
     for frame in frames {
         let body = draws.bytes(frame.len() - HEADER);
         frame[HEADER..].copy_from_slice(&body);
@@ -289,7 +289,7 @@ fn change_twice(draws: &mut Draws, frames: &mut Frames) {
 }
 
 /// Cut near the end of some frame, or inside it.
-fn cut(draws: &mut Draws, frames: &mut Frames) {
+pub(crate) fn cut(draws: &mut Draws, frames: &mut Frames) {
     let at = draws.below(frames.len());
     let one = frames[at].len();
     let left = [one - 1, one, 1, draws.below(one)][draws.below(4)];
@@ -298,7 +298,7 @@ fn cut(draws: &mut Draws, frames: &mut Frames) {
 }
 
 /// Bytes behind the last frame: a few, or about as many as a frame has.
-fn lengthen(draws: &mut Draws, frames: &mut Frames) {
+pub(crate) fn lengthen(draws: &mut Draws, frames: &mut Frames) {
     let one = frames[0].len();
     let more = [1, draws.below(40) + 1, one - 1, one, one + 1][draws.below(5)];
     frames.push(draws.bytes(more));

@@ -1,6 +1,8 @@
 //! "Playing a recording": frames of one length back to back, and the text printed for them.
+//! Two recordings of one meeting (document 02 §7) are played as one.
 
 use crate::frame;
+use crate::pair;
 use crate::receiver::{self, Reply};
 use crate::settings::Settings;
 use crate::state::{check_settings, refuse_if, ReceiverState, Refusal};
@@ -13,7 +15,20 @@ pub const FURTHEST: u32 = 4095;
 /// The bytes that the program prints for a recording.
 pub fn transcript(recording: &[u8]) -> Vec<u8> {
     let mut text = String::new();
-    if let Err(refusal) = play_into(recording, &mut text) {
+    let played = play_into(recording, &mut text);
+    with_stop(text, played)
+}
+
+/// The bytes that the program prints for a pair of recordings.
+pub fn play_pair(first: &[u8], second: &[u8]) -> Vec<u8> {
+    let mut text = String::new();
+    let played = play_pair_into(first, second, &mut text);
+    with_stop(text, played)
+}
+
+/// The lines printed, and at a refusal the line of the stop.
+fn with_stop(mut text: String, played: Result<(), Refusal>) -> Vec<u8> {
+    if let Err(refusal) = played {
         text += &format!("stop {}\n", refusal.number());
     }
     text.into_bytes()
@@ -26,6 +41,23 @@ fn play_into(recording: &[u8], text: &mut String) -> Result<(), Refusal> {
     let settings = check_recording(recording)?;
     let mut player = Player::start(settings);
     for frame in recording.chunks_exact(frame::length(&settings)) {
+        player.check(frame)?;
+        player.play_frame(frame, text)?;
+    }
+    Ok(())
+}
+
+/// A pair is checked whole before any line. Its first recording that isn't empty gives the
+/// settings; the slots that neither has are skipped as those of one recording are.
+fn play_pair_into(first: &[u8], second: &[u8], text: &mut String) -> Result<(), Refusal> {
+    let Some(leading) = [first, second].into_iter().find(|recording| !recording.is_empty()) else {
+        return Ok(());
+    };
+    refuse_if(leading.len() < frame::HEADER, Refusal::WrongLength)?;
+    let settings = frame::settings(leading);
+    pair::check_pair(&settings, first, second)?;
+    let mut player = Player::start(settings);
+    for frame in pair::joined(&settings, first, second).values() {
         player.check(frame)?;
         player.play_frame(frame, text)?;
     }

@@ -1,5 +1,5 @@
 //! The example recordings, with what is printed for each: written by the reference's own
-//! sender from fixed starts of the draws.
+//! sender from fixed starts of the draws. The pairs of them go into a directory of their own.
 
 use std::fs;
 use std::io;
@@ -7,6 +7,7 @@ use std::path::Path;
 
 use crate::broadcast::{self, set_settings, set_slot, without, Frames};
 use crate::frame::{self, HEADER};
+use crate::pair_examples;
 use crate::patterns::Draws;
 use crate::play::{transcript, FURTHEST, LONGEST};
 use crate::settings::Settings;
@@ -14,13 +15,15 @@ use crate::settings::Settings;
 /// A name and a recording.
 pub type Example = (&'static str, Vec<u8>);
 
-/// Writes NAME.rec and NAME.out for each example.
+/// Writes NAME.rec and NAME.out for each example, and the pairs into a directory `pairs`.
 pub fn write(directory: &Path) -> io::Result<()> {
     for (name, recording) in examples() {
         fs::write(directory.join(format!("{name}.rec")), &recording)?;
         fs::write(directory.join(format!("{name}.out")), transcript(&recording))?;
     }
-    Ok(())
+    let pairs = directory.join("pairs");
+    fs::create_dir_all(&pairs)?;
+    pair_examples::write(&pairs)
 }
 
 pub fn examples() -> Vec<Example> {
@@ -40,7 +43,7 @@ pub fn examples() -> Vec<Example> {
 }
 
 /// The settings of most examples.
-fn middling() -> Settings {
+pub fn middling() -> Settings {
     Settings { window: 12, lanes: 4, ..Settings::of_code(6, 3, 2) }
 }
 

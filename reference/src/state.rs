@@ -63,7 +63,7 @@ impl ReceiverState {
 }
 
 /// The causes, by their numbers. A call meets its own in this order: an opening at a slot 1, 2 and
-/// 7, a look-up 1, 2, 3 and 8.
+/// 7, a look-up 1, 2, 3 and 8, the check of a pair of recordings 1, 2, 4, 5, 9 and 10.
 #[derive(Clone, Copy, Debug, PartialEq, Eq)]
 pub enum Refusal {
     SettingsNotAccepted,
@@ -74,6 +74,8 @@ pub enum Refusal {
     NotTheSlotDue,
     NoSlotToOpenAt,
     NoMessageToLookUp,
+    SlotsNotRising,
+    FramesDiffer,
 }
 
 impl Refusal {
@@ -88,6 +90,8 @@ impl Refusal {
             Refusal::NotTheSlotDue => 6,
             Refusal::NoSlotToOpenAt => 7,
             Refusal::NoMessageToLookUp => 8,
+            Refusal::SlotsNotRising => 9,
+            Refusal::FramesDiffer => 10,
         }
     }
 }

@@ -1,7 +1,8 @@
 //! The receiver but for its sums and its eliminations.
 
 use super::reply;
-use super::shape::{due_in_range, exact, opened, set_due, settings, Settings, Shape, State, HEADER, STATE_LEN};
+use super::shape::{due_in_range, exact, opened, set_due, settings};
+use super::shape::{Settings, Shape, State, HEADER, MARK, STATE_LEN};
 
 /// The length of a receiver's rows, or 0 for settings that are not accepted.
 pub fn receiver_len(settings: &Settings) -> usize {
@@ -86,7 +87,7 @@ fn check_heard(state: &State, rows: &[u8], frame: &[u8], message: &[u8]) -> Resu
     let lengths = [(rows.len(), rows_len(&shape)), (frame.len(), shape.frame()), (message.len(), shape.message())];
     exact(&lengths)?;
     let due = due_in_range(state)?;
-    if frame[..5] != [0x54, 0x4F, 0x42, 0, 1] {
+    if frame[..5] != MARK {
         return Err(reply::MARK);
     }
     if frame[5..10] != state[..5] {

@@ -1,7 +1,8 @@
 //! The sender but for its sums.
 
 use super::reply;
-use super::shape::{due_in_range, exact, opened, set_due, settings, Settings, Shape, State, HEADER, STATE_LEN};
+use super::shape::{due_in_range, exact, opened, set_due, settings};
+use super::shape::{Settings, Shape, State, HEADER, MARK, STATE_LEN};
 
 /// The length of a sender's rows, or 0 for settings that are not accepted.
 pub fn sender_len(settings: &Settings) -> usize {
@@ -53,7 +54,7 @@ fn check(state: &State, rows: &[u8], message: &[u8], frame: &[u8]) -> Result<(Sh
 
 /// The 14 bytes before the body.
 fn write_header(settings: &Settings, due: u32, frame: &mut [u8]) {
-    frame[..5].copy_from_slice(&[0x54, 0x4F, 0x42, 0, 1]);
+    frame[..5].copy_from_slice(&MARK);
     frame[5..10].copy_from_slice(settings);
     frame[10..14].copy_from_slice(&due.to_be_bytes());
 }

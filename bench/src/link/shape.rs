@@ -13,6 +13,8 @@ pub const STATE_LEN: usize = 20;
 pub const END: u32 = 4_000_000_000;
 /// The length of a frame's header.
 pub const HEADER: usize = 14;
+/// The mark and the version that a frame begins with.
+pub const MARK: [u8; 5] = [0x54, 0x4F, 0x42, 0, 1];
 
 /// The sizes of accepted settings.
 #[derive(Clone, Copy)]

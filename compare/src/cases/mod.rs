@@ -9,6 +9,7 @@ mod lists;
 mod look_ups;
 mod losses;
 mod openings;
+mod pairs;
 mod refused;
 mod rows;
 mod twins;
@@ -23,7 +24,7 @@ use crate::draw::Draws;
 
 type Part = fn(&mut Comparison) -> Result<(), Difference>;
 
-pub const PARTS: [(&str, Part); 7] = [
+pub const PARTS: [(&str, Part); 8] = [
     ("lengths", bounds::run),
     ("openings", openings::run),
     ("refused calls", refused::run),
@@ -31,6 +32,7 @@ pub const PARTS: [(&str, Part); 7] = [
     ("rows handed in", rows::run),
     ("lists of calls", lists::run),
     ("twins", twins::run),
+    ("pairs of recordings", pairs::run),
 ];
 
 /// Settings that have the delay of a code: mostly T is set to it and the window is any above it,

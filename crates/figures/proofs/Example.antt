@@ -15,7 +15,7 @@ use Rattle.protocol.specs.Calls.{OpenedReceiver, openReceiverOf, Reported, mess
 use Rattle.protocol.specs.TwoLists.{Report, heard, missed, reportOf}
 use Rattle.protocol.proofs.QuickVerdict.{quickReport, small, smallFrames, quick-report}
 use Rattle.numbers.specs.Digits.{decimal, decimalUpTo}
-use Rattle.lines.specs.Text.{stopLine, lineOf}
+use Rattle.lines.specs.Text.{stopText, stopLine, lineOf}
 use Rattle.frames.specs.Fields.{settingsAt, slotAt, settingsIn, slotIn}
 use Rattle.stops.specs.Stops.{recordingCause, frameStop}
 use Rattle.progress.specs.Refusal.{refuses}
@@ -125,7 +125,7 @@ quickly-printed =
 -- computed, as document 01 prints it
 computed : quickTranscript ≡ exampleLines
 unfolding computing quickTranscript exampleLines quickPlayed quickSkipped andThen pieces settingsAt slotAt frameStop example
-    lineOf decimal decimalUpTo stopLine
+    lineOf decimal decimalUpTo stopText
 computed = refl
 
 pub example-printed : transcript example ≡ exampleLines

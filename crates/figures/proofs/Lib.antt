@@ -7,3 +7,4 @@ pub mod Fade
 pub mod Late
 pub mod ShortWindow
 pub mod Known
+pub mod Together

@@ -1,4 +1,4 @@
-// Reading a file, as standard input, to its end.
+// Reading a file to its end: one that is open, as standard input, or one that an argument names.
 ghost use Prim.Native.Nat.{_≤_};
 ghost use lib.ListN.{length};
 
@@ -34,4 +34,33 @@ pub fn read_all(fd: i32, buf: &mut [u8]) -> Input
         len: done,
         failed: false,
     }
+}
+
+// Reads the file that argument i names; where that cannot be done, it is told on standard error.
+pub fn read_named(i: usize, buf: &mut [u8]) -> Input
+    ensures { λ r. ⌜ r .len ≤ length (now (buf .exit)) ⌝ }
+{
+    let mut path = io::buffer();
+    let end = os::arg(i, &mut path);
+    if os::errno() != 0 {
+        os::fail(b"play: a file's name");
+        return Input {
+            len: 0,
+            failed: true,
+        };
+    }
+    let fd = os::open_read(&path[..end]);
+    if fd < 0 {
+        os::fail(&path[..end]);
+        return Input {
+            len: 0,
+            failed: true,
+        };
+    }
+    let read = read_all(fd, buf);
+    if read.failed {
+        os::fail(&path[..end]);
+    }
+    libc::close(fd);
+    read
 }

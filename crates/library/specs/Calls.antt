@@ -12,6 +12,7 @@ use Rattle.protocol.specs.Causes.{numberOf}
 use Rattle.protocol.specs.Calls.{OpenedSender, OpenedReceiver, Sent, Reported, openSenderOf, sendOf, openReceiverOf, heardOf, lossOf}
 use Rattle.protocol.specs.Calls.{Looked, lookUpOf}
 use Rattle.frames.specs.Fields.{settingsAt}
+use Rattle.aerials.specs.Pair.{pairCause}
 use Rattle.state.specs.State.{senderBytes, receiverBytes, senderIn, receiverIn}
 use Rattle.protocol.specs.Numbers.{answerNumber, replyNumber}
 use Rattle.library.specs.Causes.{openBytesCause, openReceiverBytesCause, sendBytesCause, heardBytesCause, lostBytesCause}
@@ -147,3 +148,9 @@ lookUpBytes state rows number message =
       | answer.Refused c ↦ record { reply = numberOf c; message = message }
       | answer.Accepted ↦ lookedBytes (lookUpOf (receiverIn state) rows number message)
     ]
+
+-- ---- a pair of recordings
+
+-- the check of a pair, with the settings that a caller lends
+unfoldable pub pairBytes : List ℕ → List ℕ → List ℕ → ℕ
+pairBytes settings first second = pairCause (settingsOf settings) first second

@@ -7,10 +7,9 @@ use Prim.Native.Nat.{ℕ, _≤_, _<_}
 use lib.Dec.{ltb}
 use lib.ListN.{length}
 use borrow.Author.Tests.{lt-ltb, le-ltb, ltb-false}
-use Rattle.protocol.specs.declared.Cause.{Cause}
 use Rattle.protocol.specs.declared.Reply.{Reply}
-use Rattle.lines.specs.Text.{stopLine, lineOf, written}
-use Rattle.lines.specs.Lent.{longest, Line, lineOn, stopRoom, stopOn}
+use Rattle.lines.specs.Text.{stopText, lineOf, written}
+use Rattle.lines.specs.Lent.{longest, Line, lineOn, stopRoom, stopTextOn}
 use Rattle.lines.proofs.TextLaws.{stop-length}
 
 -- ---- the line of a report
@@ -37,29 +36,29 @@ module _ (about : ℕ) (reply : Reply) (message line : List ℕ) where
 
 -- ---- the line of a refusal
 
-module _ (c : Cause) (line : List ℕ) where
+module _ (n : ℕ) (line : List ℕ) where
   -- without room it stays as it was
-  pub stop-stays : length line < stopRoom → record { line = line; len = 0 } ≡ stopOn c line
-  unfolding stopOn
-  stop-stays h = rw (lt-ltb (length line) stopRoom h, stopOn)
+  pub stop-stays : length line < stopRoom → record { line = line; len = 0 } ≡ stopTextOn n line
+  unfolding stopTextOn
+  stop-stays h = rw (lt-ltb (length line) stopRoom h, stopTextOn)
 
   -- with room the text is written
-  pub stop-lent : stopRoom ≤ length line → record { line = written (stopLine c) line; len = length (stopLine c) } ≡ stopOn c line
-  unfolding stopOn
-  stop-lent h = rw (le-ltb (length line) stopRoom h, stopOn)
+  pub stop-lent : stopRoom ≤ length line → record { line = written (stopText n) line; len = length (stopText n) } ≡ stopTextOn n line
+  unfolding stopTextOn
+  stop-lent h = rw (le-ltb (length line) stopRoom h, stopTextOn)
 
   -- so these are the parts of what is given back
-  pub stop-parts : (now : List ℕ) (len : ℕ) → record { line = now; len = len } ≡ stopOn c line → stopRoom ≤ length line
-      → (len ≡ length (stopLine c)) × (now ≡ written (stopLine c) line)
+  pub stop-parts : (now : List ℕ) (len : ℕ) → record { line = now; len = len } ≡ stopTextOn n line → stopRoom ≤ length line
+      → (len ≡ length (stopText n)) × (now ≡ written (stopText n) line)
   stop-parts now len e h =
       let lent = e ∙ sym (stop-lent h) in
       (ap (λ (l : Line). l .len) lent, ap (λ (l : Line). l .line) lent)
 
   -- what is written fits
-  pub stop-fits : stopOn c line .len ≤ length line
-  unfolding stopOn
+  pub stop-fits : stopTextOn n line .len ≤ length line
+  unfolding stopTextOn
   stop-fits = go (ltb (length line) stopRoom) refl
     where
-      go : (b : Bool) → ltb (length line) stopRoom ≡ b → stopOn c line .len ≤ length line
-      go true is = rw (is, stopOn) (omega arith)
-      go false is = rw (is, stopOn) (omega (arith, stop-length c, ltb-false (length line) stopRoom is))
+      go : (b : Bool) → ltb (length line) stopRoom ≡ b → stopTextOn n line .len ≤ length line
+      go true is = rw (is, stopTextOn) (omega arith)
+      go false is = rw (is, stopTextOn) (omega (arith, stop-length n, ltb-false (length line) stopRoom is))

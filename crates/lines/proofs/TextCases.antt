@@ -4,7 +4,7 @@ use mathlib.Core.List.{[], _∷_}
 use Rattle.protocol.specs.declared.Reply.the-variants.{Whole}
 use Rattle.protocol.specs.declared.Cause.the-variants.{OtherSlot}
 use Rattle.numbers.specs.Digits.{decimalUpTo, decimal}
-use Rattle.lines.specs.Text.{stopLine, lineOf}
+use Rattle.lines.specs.Text.{stopText, stopLine, lineOf}
 
 -- `12 whole 09ab`
 whole-line : lineOf 12 Whole (9 ∷ 171 ∷ []) ≡ 49 ∷ 50 ∷ 32 ∷ 119 ∷ 104 ∷ 111 ∷ 108 ∷ 101 ∷ 32 ∷ 48 ∷ 57 ∷ 97 ∷ 98 ∷ 10 ∷ []
@@ -13,5 +13,5 @@ whole-line = refl
 
 -- `stop 6`
 stop-line : stopLine OtherSlot ≡ 115 ∷ 116 ∷ 111 ∷ 112 ∷ 32 ∷ 54 ∷ 10 ∷ []
-unfolding stopLine decimal decimalUpTo
+unfolding stopText decimal decimalUpTo
 stop-line = refl

@@ -6,7 +6,6 @@ use native.Mathlib.Nat.{zero-add}
 use native.Mathlib.Omega.{arith}
 use lib.ListN.{length, set, take, drop, length-append, length-drop}
 use lib.Seq.{take-append-seam}
-use Rattle.protocol.specs.declared.Cause.{Cause}
 use Rattle.protocol.specs.declared.Reply.{Reply}
 use Rattle.protocol.specs.declared.Reply.the-variants.{Refused, NoneYet, Whole, Lost, Clash}
 use Rattle.protocol.specs.Causes.{numberOf}
@@ -14,7 +13,7 @@ use Rattle.numbers.specs.Digits.{put}
 use Rattle.numbers.proofs.Decimals.{decimal-length}
 use Rattle.numbers.proofs.HexDigits.{hex-length}
 use Rattle.numbers.proofs.Putting.{put-more, put-one}
-use Rattle.lines.specs.Text.{stopLine, lineOf, written}
+use Rattle.lines.specs.Text.{stopText, lineOf, written}
 use Rattle.lines.specs.Lent.{stopRoom}
 
 -- a text written over a line leaves its length
@@ -47,14 +46,14 @@ written-byte text line b h =
     ∙ written-more text (b ∷ []) line
 
 -- a line of `stop` has room for any number in its 16 bytes
-pub stop-length : (c : Cause) → length (stopLine c) ≤ stopRoom
-unfolding stopLine
-stop-length c = simp length-append (omega (arith, decimal-length (numberOf c)))
+pub stop-length : (n : ℕ) → length (stopText n) ≤ stopRoom
+unfolding stopText
+stop-length n = simp length-append (omega (arith, decimal-length n))
 
 -- a line fits in 18 bytes and two for each byte of the message
 pub line-fits : (about : ℕ) (r : Reply) (message : List ℕ) → length (lineOf about r message) ≤ 18 + 2 * length message
 unfolding lineOf
-line-fits about (Refused c) message = omega (arith, stop-length c)
+line-fits about (Refused c) message = omega (arith, stop-length (numberOf c))
 line-fits about NoneYet message = omega arith
 line-fits about Whole message =
     simp length-append (omega (arith, decimal-length about, hex-length message))

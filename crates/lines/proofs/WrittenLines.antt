@@ -5,13 +5,11 @@ use mathlib.Core.List.{List, [], _∷_, _++_}
 use Prim.Native.Nat.{ℕ, _+_, _*_, _≤_}
 use native.Mathlib.Omega.{arith}
 use lib.ListN.{length, set, length-append}
-use Rattle.protocol.specs.declared.Cause.{Cause}
 use Rattle.protocol.specs.declared.Reply.the-variants.{Whole}
-use Rattle.protocol.specs.Causes.{numberOf}
 use Rattle.numbers.specs.Digits.{decimal, hex, put}
 use Rattle.numbers.proofs.Decimals.{decimal-length}
 use Rattle.numbers.proofs.HexDigits.{hex-length}
-use Rattle.lines.specs.Text.{wholeWord, stopWord, stopLine, lineOf, written}
+use Rattle.lines.specs.Text.{wholeWord, stopWord, stopText, lineOf, written}
 use Rattle.lines.specs.Lent.{stopRoom}
 use Rattle.lines.proofs.TextLaws.{written-byte, written-more, written-length}
 
@@ -33,22 +31,20 @@ module _ (text more line : List ℕ) (at : ℕ) (part whole : List ℕ) (is-at :
   joined-length room = ap length joined ∙ written-length (text ++ more) line (omega (arith, joined-end))
 
 -- `stop`, the number and the line's end
-module _ (c : Cause) (line : List ℕ) (room : stopRoom ≤ length line) (n at : ℕ) (part whole : List ℕ) (is-n : n ≡ numberOf c)
+module _ (line : List ℕ) (room : stopRoom ≤ length line) (n at : ℕ) (part whole : List ℕ)
     (is-at : at ≡ 5 + length (decimal n)) (is-part : part ≡ written stopWord line) (is-whole : whole ≡ put 5 (decimal n) part) where
   -- the number leaves the line's length
   pub number-length : length whole ≡ length line
   number-length = joined-length stopWord (decimal n) line 5 part whole refl is-part is-whole (omega (arith, decimal-length n))
 
-  pub stop-written : (at + 1 ≡ length (stopLine c)) × (set whole at 10 ≡ written (stopLine c) line)
-  unfolding stopLine
+  pub stop-written : (at + 1 ≡ length (stopText n)) × (set whole at 10 ≡ written (stopText n) line)
+  unfolding stopText
   stop-written =
       let text : List ℕ = stopWord ++ decimal n in
-      let end : at ≡ length text = is-at ∙ joined-end stopWord (decimal n) line 5 part whole refl is-part is-whole in
-      let same : stopWord ++ decimal (numberOf c) ++ 10 ∷ [] ≡ text ++ 10 ∷ [] = ap (λ (k : ℕ). stopWord ++ decimal k ++ 10 ∷ []) (sym is-n) in (
-        omega (arith, ap length same, length-append text (10 ∷ [])),
+      let end : at ≡ length text = is-at ∙ joined-end stopWord (decimal n) line 5 part whole refl is-part is-whole in (
+        omega (arith, length-append text (10 ∷ [])),
         ap₂ (λ (l : List ℕ) (k : ℕ). set l k 10) (joined stopWord (decimal n) line 5 part whole refl is-part is-whole) end
-            ∙ written-byte text line 10 (omega (arith, decimal-length n))
-            ∙ ap (λ (l : List ℕ). written l line) (sym same),
+            ∙ written-byte text line 10 (omega (arith, decimal-length n)),
       )
 
 -- a number and ` whole ` are at most 17 bytes

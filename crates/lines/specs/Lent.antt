@@ -6,7 +6,8 @@ use lib.Dec.{ltb}
 use lib.ListN.{length}
 use Rattle.protocol.specs.declared.Cause.{Cause}
 use Rattle.protocol.specs.declared.Reply.{Reply}
-use Rattle.lines.specs.Text.{stopLine, lineOf, written}
+use Rattle.protocol.specs.Causes.{numberOf}
+use Rattle.lines.specs.Text.{stopText, lineOf, written}
 
 -- what the longest line takes: ten digits, ` whole `, the message in hex, and the line's end
 unfoldable pub longest : List ℕ → ℕ
@@ -29,10 +30,14 @@ lineOn about reply message line =
 abbrev pub stopRoom : ℕ
 stopRoom = 16
 
--- the line of a refusal, over the start of a lent line; without room for any number's nothing changes
-unfoldable pub stopOn : Cause → List ℕ → Line
-stopOn c line =
+-- the line of a refusal by its number, over the start of a lent line; without room for any number's nothing changes
+unfoldable pub stopTextOn : ℕ → List ℕ → Line
+stopTextOn n line =
     elim (ltb (length line) stopRoom) [
       | true ↦ record { line = line; len = 0 }
-      | false ↦ record { line = written (stopLine c) line; len = length (stopLine c) }
+      | false ↦ record { line = written (stopText n) line; len = length (stopText n) }
     ]
+
+-- that of a cause
+abbrev pub stopOn : Cause → List ℕ → Line
+stopOn c = stopTextOn (numberOf c)

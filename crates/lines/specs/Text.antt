@@ -23,8 +23,12 @@ abbrev pub stopWord : List ℕ
 stopWord = 115 ∷ 116 ∷ 111 ∷ 112 ∷ 32 ∷ []
 
 -- a line of `stop`, a space and the number
-unfoldable pub stopLine : Cause → List ℕ
-stopLine c = stopWord ++ decimal (numberOf c) ++ 10 ∷ []
+unfoldable pub stopText : ℕ → List ℕ
+stopText n = stopWord ++ decimal n ++ 10 ∷ []
+
+-- that of a cause
+abbrev pub stopLine : Cause → List ℕ
+stopLine c = stopText (numberOf c)
 
 -- what a report prints of the message that it tells of: its number, a space, and the reply; after `whole` the message; `none yet` prints
 -- no line

@@ -2,6 +2,7 @@
 // recording".
 mod text;
 
+use ends::number_of;
 use protocol::Cause;
 use protocol::Reply;
 use text::put_line;
@@ -9,7 +10,7 @@ use text::put_stop;
 ghost use mathlib.Core.Path.{_≡_};
 ghost use Prim.Native.Nat.{_+_, _*_};
 ghost use lib.Dec.{leb};
-ghost use Rattle.lines.specs.Lent.{lineOn, stopOn};
+ghost use Rattle.lines.specs.Lent.{lineOn, stopTextOn, stopOn};
 
 // Whether a line has room for the longest that this message buffer can give.
 pub fn has_room(line: usize, message: usize) -> bool
@@ -34,12 +35,19 @@ pub fn write_line(about: u32, reply: Reply, message: &[u8], line: &mut [u8]) -> 
     put_line(about, reply, message, line)
 }
 
-// The line of a refusal, and how long it is: 0 where the lent line has no room for any number's.
-pub fn write_stop(c: Cause, line: &mut [u8]) -> usize
-    ensures { λ r. ⌜ record { line = now (line .exit); len = r } ≡ stopOn c (now (line .entry)) ⌝ }
+// The line of a refusal by its number, and how long it is: 0 where the lent line has no room for any number's.
+pub fn write_stop_number(n: u32, line: &mut [u8]) -> usize
+    ensures { λ r. ⌜ record { line = now (line .exit); len = r } ≡ stopTextOn n (now (line .entry)) ⌝ }
 {
     if line.len() < 16 {
         return 0;
     }
-    put_stop(c, line)
+    put_stop(n, line)
+}
+
+// That of a cause.
+pub fn write_stop(c: Cause, line: &mut [u8]) -> usize
+    ensures { λ r. ⌜ record { line = now (line .exit); len = r } ≡ stopOn c (now (line .entry)) ⌝ }
+{
+    write_stop_number(number_of(c), line)
 }

@@ -3,13 +3,12 @@ use buffers::write_at;
 use ends::number_of;
 use numbers::write_decimal;
 use numbers::write_hex;
-use protocol::Cause;
 use protocol::Reply;
 ghost use mathlib.Core.List.{_++_};
 ghost use Prim.Native.Nat.{_+_, _*_, _≤_};
 ghost use lib.ListN.{length};
 ghost use Rattle.numbers.specs.Digits.{decimal};
-ghost use Rattle.lines.specs.Text.{stopLine, lineOf, Writes};
+ghost use Rattle.lines.specs.Text.{stopText, lineOf, Writes};
 ghost use Rattle.lines.specs.Lent.{stopRoom};
 
 // A number in decimal, then a word.
@@ -34,12 +33,12 @@ fn write_whole(about: u32, message: &[u8], line: &mut [u8]) -> usize
 }
 
 // A line of `stop`, a space and the number, where there is room for any number's.
-pub(crate) fn put_stop(c: Cause, line: &mut [u8]) -> usize
+pub(crate) fn put_stop(n: u32, line: &mut [u8]) -> usize
     requires { ⌜ stopRoom ≤ length (now line) ⌝ }
-    ensures { λ r. ⌜ Writes (stopLine c) (now (line .entry)) r (now (line .exit)) ⌝ }
+    ensures { λ r. ⌜ Writes (stopText n) (now (line .entry)) r (now (line .exit)) ⌝ }
 {
     write_at(line, 0, b"stop ");
-    let at = write_decimal(number_of(c), line, 5);
+    let at = write_decimal(n, line, 5);
     line[at] = b'\n';
     at + 1
 }
@@ -50,7 +49,7 @@ pub(crate) fn put_line(about: u32, reply: Reply, message: &[u8], line: &mut [u8]
     ensures { λ r. ⌜ Writes (lineOf about reply (now (message .entry))) (now (line .entry)) r (now (line .exit)) ⌝ }
 {
     match reply {
-        Reply::Refused(c) => put_stop(c, line),
+        Reply::Refused(c) => put_stop(number_of(c), line),
         Reply::NoneYet => 0,
         Reply::Whole => write_whole(about, message, line),
         Reply::Lost => write_word(about, b" lost\n", line),

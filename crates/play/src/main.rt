@@ -1,4 +1,6 @@
-// Plays the recording on standard input: reads it to its end, and prints it buffer by buffer.
+// Plays the recording on standard input, buffer by buffer, or the pair of recordings that two arguments name, line by line.
+mod pair;
+
 use buffers::message_len;
 use buffers::receiver_len;
 use code::Settings;
@@ -11,7 +13,7 @@ ghost use Prim.Native.Nat.{_+_, _*_, _≤_};
 ghost use lib.ListN.{length};
 
 // Writes to standard output, and answers whether it could.
-fn put(bytes: &[u8]) -> bool {
+pub(crate) fn put(bytes: &[u8]) -> bool {
     let done = io::write_all(STDOUT_FILENO, bytes);
     if !done {
         io::write_all(STDERR_FILENO, b"play: standard output cannot be written\n");
@@ -77,8 +79,13 @@ fn read_and_play(input: &mut [u8], rows: &mut [u8], message: &mut [u8], out: &mu
 
 fn main() {
     let mut input = [0u8; 65537];
+    let mut other = [0u8; 65537];
     let mut rows = [0u8; 30750];
     let mut message = [0u8; 960];
     let mut out = [0u8; 65536];
-    read_and_play(&mut input, &mut rows, &mut message, &mut out);
+    if os::arg_count() < 3 {
+        read_and_play(&mut input, &mut rows, &mut message, &mut out);
+        return;
+    }
+    pair::read_and_play(&mut input, &mut other, &mut rows, &mut message, &mut out);
 }

@@ -24,7 +24,7 @@ moved-length x row rows = buffer-length (x .settings) _ _ _ _
 
 module _ (x : Receiver) (rows message : List ℕ) where
   -- a loss
-  loss-length : length (lossOf x rows message .message) ≡ length message
+  pub loss-length : length (lossOf x rows message .message) ≡ length message
   loss-length = go (lossCause x rows message) refl
     where
       go : (f : Answer) → lossCause x rows message ≡ f → length (lossOf x rows message .message) ≡ length message
@@ -34,7 +34,7 @@ module _ (x : Receiver) (rows message : List ℕ) where
       go (answer.Refused c) is = rw (loss-stays x rows message c is)
 
   -- a frame
-  heard-length : (frame : List ℕ) → length (heardOf x rows frame message .message) ≡ length message
+  pub heard-length : (frame : List ℕ) → length (heardOf x rows frame message .message) ≡ length message
   heard-length frame = go (frameCause x rows frame message) refl
     where
       go : (f : Answer) → frameCause x rows frame message ≡ f → length (heardOf x rows frame message .message) ≡ length message

@@ -50,7 +50,7 @@ below-less t a (suc b) =
     (λ small. rw (lt-ltb a (suc b) small) (sym (le-ltb (t + suc b) a (omega arith)))) (le-or-lt (suc b) a)
 
 -- where neither of two tests passes, each fails
-neither : (a b : Bool) → a || b ≡ false → (a ≡ false) × (b ≡ false)
+pub neither : (a b : Bool) → a || b ≡ false → (a ≡ false) × (b ≡ false)
 neither true b e = absurd (true≢false e)
 neither false b e = (refl, e)
 

@@ -2,5 +2,6 @@
 // what became of them. A refused call changes no lent byte.
 mod lengths;
 mod openings;
+mod pairs;
 mod receiving;
 mod sending;

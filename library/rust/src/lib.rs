@@ -55,6 +55,13 @@ mod c {
             message: *mut u8,
             message_len: usize,
         ) -> u32;
+        pub fn tob_pair_cause(
+            settings: *const u8,
+            first: *const u8,
+            first_len: usize,
+            second: *const u8,
+            second_len: usize,
+        ) -> u32;
     }
 }
 
@@ -151,4 +158,9 @@ pub fn look_up(state: &[u8], rows: &[u8], number: i64, message: &mut [u8]) -> u3
             message.len(),
         )
     }
+}
+
+/// Checks two recordings of one meeting, that of the first aerial and that of the second.
+pub fn pair_cause(settings: &Settings, first: &[u8], second: &[u8]) -> u32 {
+    unsafe { c::tob_pair_cause(settings.as_ptr(), first.as_ptr(), first.len(), second.as_ptr(), second.len()) }
 }

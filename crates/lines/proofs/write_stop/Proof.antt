@@ -1,27 +1,18 @@
--- A line without room stays; else the line of `stop` is written.
+-- The line of the cause's number.
 use borrow.Author.Needs.{needs}
-use mathlib.Core.Path.{ap₂, _∙_}
-use mathlib.Core.List.{List}
-use native.Mathlib.Omega.{arith}
+use mathlib.Core.Path.{ap, _∙_}
 use Prim.Native.Nat.{ℕ}
 use denote.Ref.{now}
-use Rattle.lines.specs.Lent.{Line}
-use Rattle.lines.proofs.LentLines.{stop-stays, stop-lent}
+use Rattle.lines.specs.Lent.{stopTextOn}
 use Rattle.lines.proofs.write_stop.Statement.{statement}
 use Rattle.lines.proofs.write_stop.Tie as tie
 
--- a line by its parts
-abbrev lent : List ℕ → ℕ → Line
-lent line len = record { line = line; len = len }
-
 returns : tie.Need-returns
-returns c = let a = c .before .before .args in stop-stays (a .c) (now (a .line)) (omega arith)
-
-returns-2 : tie.Need-returns-2
-returns-2 c =
-    let wrote = c .before .before .put-stop .ensures in
-    let a = c .before .before .before .before .before .before .args in
-    ap₂ lent (wrote .1) (wrote .0) ∙ stop-lent (a .c) (now (a .line)) (omega arith)
+returns c =
+    let called = c .before .before in
+    let number = called .before .before in
+    let a = number .before .before .args in
+    called .write-stop-number .ensures ∙ ap (λ (n : ℕ). stopTextOn n (now (a .line))) (number .number-of .ensures)
 
 pub write-stop-spec : {M : Type 1} → statement M
-write-stop-spec = tie.close (tie.spec returns (λ c κs. search needs) (λ c. search needs) returns-2)
+write-stop-spec = tie.close (tie.spec (λ c κs. search needs) (λ c κs. search needs) (λ c. search needs) returns)

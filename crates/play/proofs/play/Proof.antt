@@ -7,6 +7,7 @@ use lib.Dec.{T}
 use lib.ListN.{length-take}
 use Rattle.code.specs.Settings.{accepted}
 use Rattle.lines.specs.Lent.{Line}
+use Rattle.protocol.specs.Causes.{numberOf}
 use Rattle.lines.proofs.LentLines.{stop-fits}
 use Rattle.stops.proofs.StartLaws.{play-accepted}
 use Rattle.player.proofs.LoopLaws.{rows-few, message-few}
@@ -18,7 +19,7 @@ part-put-end c =
     let refused = c .before .before .before in
     let why = refused .before .before .before .c .given .0 .0 in
     let a = refused .before .before .before .before .before .before .before .before .before .before .args in
-    omega (arith, stop-fits why (now (a .out)), ap (λ (r : Line). r .len) (refused .write-stop .ensures))
+    omega (arith, stop-fits (numberOf why) (now (a .out)), ap (λ (r : Line). r .len) (refused .write-stop .ensures))
 
 -- the settings that are played are accepted
 ok : (c : tie.After-s) → T (accepted (c .s .given .0 .0))

@@ -3,6 +3,7 @@ use borrow.Author.Needs.{needs}
 use mathlib.Core.Path.{refl}
 use native.Mathlib.Omega.{arith}
 use denote.Ref.{now}
+use Rattle.protocol.specs.Causes.{numberOf}
 use Rattle.lines.proofs.LentLines.{stop-parts}
 use Rattle.progress.proofs.stopped.Statement.{statement}
 use Rattle.progress.proofs.stopped.Tie as tie
@@ -11,7 +12,7 @@ returns : tie.Need-returns
 returns c =
     let called = c .before .before in
     let a = called .before .before .before .args in
-    let wrote = stop-parts (a .c) (now (a .line)) _ _ (called .write-stop .ensures) (omega arith) in
+    let wrote = stop-parts (numberOf (a .c)) (now (a .line)) _ _ (called .write-stop .ensures) (omega arith) in
     (refl, (wrote .0, (refl, wrote .1)))
 
 pub stopped-spec : {M : Type 1} → statement M

@@ -7,7 +7,10 @@ use Rattle.lines.proofs.text.put_line.Tie as tie
 
 returns : tie.Need-returns
 unfolding lineOf
-returns c = rw (c .before .before .before .before .before .reply .given .1) (c .before .before .put-stop .ensures)
+returns c =
+    let called = c .before .before in
+    let number = called .before .before in
+    rw (number .before .before .reply .given .1, ← number .number-of .ensures) (called .put-stop .ensures)
 
 returns-2 : tie.Need-returns-2
 unfolding lineOf written
@@ -29,6 +32,7 @@ put-line-spec =
     tie.close
     (tie.spec
     (λ c. search needs)
+    (λ c κs. search needs)
     (λ c κs. search needs)
     (λ c. search needs)
     (λ c. search needs)

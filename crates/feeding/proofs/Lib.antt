@@ -1,0 +1,5 @@
+-- The theorems.
+pub mod Frames
+pub mod Lending
+pub mod Feeding
+pub mod Demand

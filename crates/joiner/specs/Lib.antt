@@ -1,0 +1,2 @@
+-- Working definitions: what halving knows.
+pub mod Halving

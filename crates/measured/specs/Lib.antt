@@ -1,0 +1,2 @@
+-- Working definitions: what the benchmark times.
+pub mod Timed
