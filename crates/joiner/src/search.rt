@@ -29,7 +29,11 @@ fn halve(s: Settings, recording: &[u8], slot: u32, low: usize, high: usize) -> u
     let mut top = high;
     while bottom < top {
         let mid = bottom + (top - bottom) / 2;
-        if slot_of(frame_of(s, recording, mid)) < slot {
+        let here = slot_of(frame_of(s, recording, mid));
+        if here == slot {
+            return mid;
+        }
+        if here < slot {
             bottom = mid + 1;
         } else {
             top = mid;

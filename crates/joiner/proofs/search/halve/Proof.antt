@@ -1,5 +1,5 @@
 -- Each turn halves what lies between.
-use mathlib.Core.Path.{_≡_, ap, _∙_}
+use mathlib.Core.Path.{_≡_, sym, ap, _∙_}
 use native.Mathlib.Omega.{arith}
 use Prim.Native.Nat.{ℕ, _+_, _-_, _/_, _≤_, _<_}
 use denote.Ref.{now}
@@ -7,6 +7,7 @@ use lib.ListN.{length}
 use Rattle.frames.specs.Fields.{slotIn}
 use Rattle.aerials.specs.Pair.{framesIn, slotOf}
 use Rattle.aerials.proofs.FrameLaws.{frames-few, header-inside}
+use Rattle.aerials.proofs.PartLaws.{below-at}
 use Rattle.joiner.specs.Halving.{Bracket}
 use Rattle.joiner.proofs.Halving.{up, down, closed}
 use Rattle.joiner.proofs.search.halve.Statement.{statement}
@@ -54,29 +55,40 @@ slot-of-requires c κs =
     let at = c .before .before in
     header-inside (start at .args .s) (now (start at .args .recording)) _ (inside (c .before)) _ (c .frame-of .ensures .0)
 
+-- the slot's own frame
+returns : tie.Need-returns Inv-loop μ-loop
+returns c =
+    let at = turn (c .before) .before in
+    let a = start at .args in
+    let found = below-at (a .s) (now (a .recording)) (start at .pre .0) _ (inside (turn (c .before))) in
+    sym (rw (sym (read (c .before)) ∙ c .if1 .taken) at found)
+
 add-bottom : tie.Need-add-bottom Inv-loop μ-loop
 add-bottom c =
-    let at = turn (c .before) .before in
+    let read = c .before .before in
+    let at = turn read .before in
     record {
-      fits = omega (arith, few at, middle (at .loop .bottom) (at .loop .top) (turn (c .before) .loop-test .taken), start at .good .1 .0 .0);
+      fits = omega (arith, few at, middle (at .loop .bottom) (at .loop .top) (turn read .loop-test .taken), start at .good .1 .0 .0);
     }
 
 loop-again : tie.Need-loop-again Inv-loop μ-loop
 loop-again c =
-    let at = turn (c .before) .before in
+    let seen = c .before .before in
+    let at = turn seen .before in
     up (start at .args .s) (now (start at .args .recording)) (start at .args .slot) (start at .pre .0) (at .loop .bottom) (at .loop .top) _
-    (at .loop .inv) (omega arith) (middle (at .loop .bottom) (at .loop .top) (turn (c .before) .loop-test .taken))
-    (omega (arith, read (c .before), c .if1 .taken))
+    (at .loop .inv) (omega arith) (middle (at .loop .bottom) (at .loop .top) (turn seen .loop-test .taken))
+    (omega (arith, read seen, c .if2 .taken))
 
 loop-again-2 : tie.Need-loop-again-2 Inv-loop μ-loop
 loop-again-2 c =
-    let at = turn (c .before) .before in
+    let seen = c .before .before in
+    let at = turn seen .before in
     down (start at .args .s) (now (start at .args .recording)) (start at .args .slot) (start at .pre .0) (at .loop .bottom) (at .loop .top) _
-    (at .loop .inv) (omega arith) (middle (at .loop .bottom) (at .loop .top) (turn (c .before) .loop-test .taken))
-    (omega (arith, read (c .before), c .if1 .left))
+    (at .loop .inv) (omega arith) (middle (at .loop .bottom) (at .loop .top) (turn seen .loop-test .taken))
+    (omega (arith, read seen, c .if2 .left))
 
-returns : tie.Need-returns Inv-loop μ-loop
-returns c =
+returns-2 : tie.Need-returns-2 Inv-loop μ-loop
+returns-2 c =
     let a = start (c .before) .args in
     closed (a .s) (now (a .recording)) (a .slot) (c .before .loop .bottom) (c .before .loop .top) (c .before .loop .inv) (c .loop-test .left)
 
@@ -91,9 +103,10 @@ halve-spec =
     add-mid
     (λ c κs. inside c)
     slot-of-requires
+    returns
     add-bottom
-    (λ c. omega (arith, turn (c .before) .loop-test .taken))
+    (λ c. omega (arith, turn (c .before .before) .loop-test .taken))
     loop-again
-    (λ c. omega (arith, turn (c .before) .loop-test .taken))
+    (λ c. omega (arith, turn (c .before .before) .loop-test .taken))
     loop-again-2
-    returns)
+    returns-2)
