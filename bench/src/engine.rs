@@ -57,14 +57,14 @@ pub fn ours() -> Option<Engine> {
 /// Our library, when it is linked.
 #[cfg(feature = "ours")]
 pub fn ours() -> Option<Engine> {
-    assert_eq!(tob::state_len(), std::mem::size_of::<State>());
+    assert_eq!(tob::calls::state_len(), std::mem::size_of::<State>());
     let mut engine = Engine {
         name: "ours",
-        open_sender: |settings, state, rows| tob::open_sender(settings, state, rows),
-        open_receiver: |settings, state, rows| tob::open_receiver(settings, state, rows),
-        send: |state, rows, message, frame| tob::send(state, rows, message, frame),
-        heard: |state, rows, frame, message| tob::heard(state, rows, frame, message),
-        lost: |state, rows, message| tob::lost(state, rows, message),
+        open_sender: |settings, state, rows| tob::calls::open_sender(settings, state, rows),
+        open_receiver: |settings, state, rows| tob::calls::open_receiver(settings, state, rows),
+        send: |state, rows, message, frame| tob::calls::send(state, rows, message, frame),
+        heard: |state, rows, frame, message| tob::calls::heard(state, rows, frame, message),
+        lost: |state, rows, message| tob::calls::lost(state, rows, message),
         due: [0; 4],
     };
     engine.due = places_of_due(&engine);

@@ -44,7 +44,7 @@ pub fn ours() -> Option<Joiner> {
 pub fn ours() -> Option<Joiner> {
     Some(Joiner {
         name: "ours",
-        cause: tob::pair_cause,
+        cause: tob::calls::pair_cause,
         joined_len: |s, a, b, at| unsafe { c::joined_len(s.as_ptr(), a.as_ptr(), a.len(), b.as_ptr(), b.len(), at) },
         heard_slots: |s, a, b, n| unsafe { c::heard_slots(s.as_ptr(), a.as_ptr(), a.len(), b.as_ptr(), b.len(), n) },
     })

@@ -129,30 +129,30 @@ pub fn message_number_of(bytes: &[u8]) -> i64 {
 pub fn by_library(kind: Kind, lent: &mut [Lent]) -> u32 {
     match (kind, lent) {
         (Kind::OpenSender, [settings, state, rows]) => {
-            tob::open_sender(settings.settings(), state.bytes(), rows.bytes())
+            tob::calls::open_sender(settings.settings(), state.bytes(), rows.bytes())
         }
         (Kind::OpenReceiver, [settings, state, rows]) => {
-            tob::open_receiver(settings.settings(), state.bytes(), rows.bytes())
+            tob::calls::open_receiver(settings.settings(), state.bytes(), rows.bytes())
         }
         (Kind::OpenReceiverAt, [settings, slot, state, rows]) => {
             let slot = number_of(slot.bytes());
-            tob::open_receiver_at(settings.settings(), slot, state.bytes(), rows.bytes())
+            tob::calls::open_receiver_at(settings.settings(), slot, state.bytes(), rows.bytes())
         }
         (Kind::Send, [state, rows, message, frame]) => {
-            tob::send(state.bytes(), rows.bytes(), message.bytes(), frame.bytes())
+            tob::calls::send(state.bytes(), rows.bytes(), message.bytes(), frame.bytes())
         }
         (Kind::Heard, [state, rows, frame, message]) => {
-            tob::heard(state.bytes(), rows.bytes(), frame.bytes(), message.bytes())
+            tob::calls::heard(state.bytes(), rows.bytes(), frame.bytes(), message.bytes())
         }
         (Kind::Lost, [state, rows, message]) => {
-            tob::lost(state.bytes(), rows.bytes(), message.bytes())
+            tob::calls::lost(state.bytes(), rows.bytes(), message.bytes())
         }
         (Kind::LookUp, [state, rows, number, message]) => {
             let number = message_number_of(number.read());
-            tob::look_up(state.read(), rows.read(), number, message.bytes())
+            tob::calls::look_up(state.read(), rows.read(), number, message.bytes())
         }
         (Kind::PairCause, [settings, first, second]) => {
-            tob::pair_cause(settings.settings(), first.read(), second.read())
+            tob::calls::pair_cause(settings.settings(), first.read(), second.read())
         }
         _ => unreachable!("a call is lent the things of its kind"),
     }

@@ -76,10 +76,10 @@ impl Comparison {
     pub fn lengths(&mut self, settings: [u8; 5]) -> Result<[usize; 4], Difference> {
         let expected = lengths(&settings_of(settings));
         let found = [
-            tob::message_len(&settings),
-            tob::frame_len(&settings),
-            tob::sender_len(&settings),
-            tob::receiver_len(&settings),
+            tob::calls::message_len(&settings),
+            tob::calls::frame_len(&settings),
+            tob::calls::sender_len(&settings),
+            tob::calls::receiver_len(&settings),
         ];
         if found != expected {
             let of = format!("lengths of {settings:?}");

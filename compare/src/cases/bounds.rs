@@ -11,8 +11,8 @@ const DRAWN: usize = 200_000;
 
 pub fn run(comparison: &mut Comparison) -> Result<(), Difference> {
     let mut draws = comparison.case("lengths");
-    if tob::state_len() != STATE {
-        return Err(comparison.failed(&format!("state_len is {}", tob::state_len())));
+    if tob::calls::state_len() != STATE {
+        return Err(comparison.failed(&format!("state_len is {}", tob::calls::state_len())));
     }
     every_small(comparison)?;
     every_triple(comparison)?;

@@ -51,10 +51,10 @@ pub fn meeting(draws: &mut Draws, settings: Settings, slots: usize) -> Frames {
 fn sent(draws: &mut Draws, settings: &Settings, slots: usize) -> Frames {
     let [message, frame, rows, _] = lengths(settings);
     let [mut state, mut rows] = [STATE, rows].map(|length| vec![0; length]);
-    assert_eq!(tob::open_sender(&bytes_of(settings), &mut state, &mut rows), 0);
+    assert_eq!(tob::calls::open_sender(&bytes_of(settings), &mut state, &mut rows), 0);
     let mut frames = vec![vec![0; frame]; slots];
     for frame in &mut frames {
-        assert_eq!(tob::send(&mut state, &mut rows, &draws.bytes(message), frame), 0);
+        assert_eq!(tob::calls::send(&mut state, &mut rows, &draws.bytes(message), frame), 0);
     }
     frames
 }
