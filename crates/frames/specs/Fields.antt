@@ -1,8 +1,14 @@
 -- What bytes say of themselves: settings and a slot, from a place on; and a frame, by its header.
-use mathlib.Core.List.{List}
+use mathlib.Core.Bool.{not}
+use mathlib.Core.List.{List, [], _∷_}
 use Prim.Native.Nat.{ℕ, _+_, _*_}
-use lib.ListN.{getD}
+use lib.Dec.{ltb}
+use lib.ListN.{getD, length}
 use Rattle.code.specs.declared.settings.Settings.{Settings}
+use Rattle.protocol.specs.declared.Cause.the-variants.{BadLength, OtherMark}
+use Rattle.protocol.specs.declared.Answer.{Answer}
+use Rattle.protocol.specs.Frame.{mark}
+use Rattle.protocol.specs.Causes.{Row, row, firstOf, agree}
 
 -- W, T, B, N and L, from the place `start`
 unfoldable pub settingsAt : ℕ → List ℕ → Settings
@@ -28,3 +34,13 @@ settingsIn frame = settingsAt 5 frame
 -- its slot: bytes 10 to 13
 abbrev pub slotIn : List ℕ → ℕ
 slotIn frame = slotAt 10 frame
+
+-- bytes whose slot is to be read: fewer than a header has are 2, and another mark or version is 4
+abbrev pub slotReadTable : List ℕ → List Row
+slotReadTable frame =
+    row (ltb (length frame) 14) BadLength
+    ∷ row (not (agree 5 frame (mark 1))) OtherMark
+    ∷ []
+
+unfoldable pub slotReadCause : List ℕ → Answer
+slotReadCause frame = firstOf (slotReadTable frame)

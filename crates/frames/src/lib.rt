@@ -10,7 +10,7 @@ ghost use mathlib.Core.Path.{_≡_};
 ghost use Prim.Native.Nat.{_+_, _*_, _≤_};
 ghost use lib.ListN.{length};
 ghost use Rattle.protocol.specs.Causes.{headerCause};
-ghost use Rattle.frames.specs.Fields.{settingsAt, slotAt, slotIn};
+ghost use Rattle.frames.specs.Fields.{settingsAt, slotAt, slotIn, slotReadCause};
 
 // W, T, B, N and L, from the place `start`.
 pub fn settings_at(bytes: &[u8], start: usize) -> Settings
@@ -65,6 +65,20 @@ pub fn header_cause(version: u16, s: Settings, frame: &[u8]) -> Answer
     }
     if !agrees(frame, head, 5, 10) {
         return Answer::Refused(Cause::OtherSettings);
+    }
+    Answer::Accepted
+}
+
+// The first cause for which the slot of these bytes is not read: there are too few, or they do not begin as a frame does.
+pub fn slot_read_cause(frame: &[u8]) -> Answer
+    ensures { λ r. ⌜ r ≡ slotReadCause (now (frame .entry)) ⌝ }
+{
+    if frame.len() < 14 {
+        return Answer::Refused(Cause::BadLength);
+    }
+    let head = header_bytes(1, settings_at(frame, 5), 0);
+    if !agrees(frame, head, 0, 5) {
+        return Answer::Refused(Cause::OtherMark);
     }
     Answer::Accepted
 }

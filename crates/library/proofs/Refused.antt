@@ -14,11 +14,12 @@ use Rattle.protocol.specs.Calls.{openSenderOf, openReceiverOf, sendOf, heardOf,
 use Rattle.protocol.proofs.CauseTables.{both-clear}
 use Rattle.protocol.proofs.NumberLaws.{accepted-number}
 use Rattle.protocol.proofs.Refusals.{Comes, number-first, number-refused, moved-number, told-number}
-use Rattle.state.specs.State.{senderEnd, receiverEnd, stateLen, senderIn, receiverIn, stateCause}
+use Rattle.frames.specs.Fields.{slotAt, slotIn, slotReadTable, slotReadCause}
+use Rattle.state.specs.State.{senderEnd, receiverEnd, stateLen, senderIn, receiverIn, stateCause, dueReadTable, dueReadCause}
 use Rattle.library.specs.Causes.{openBytesTable, openReceiverBytesTable, sendBytesTable, heardBytesTable, lostBytesTable, lookUpBytesTable}
 use Rattle.library.specs.Causes.{openBytesCause, openReceiverBytesCause, sendBytesCause, heardBytesCause, lostBytesCause, lookUpBytesCause}
 use Rattle.library.specs.Calls.{settingsOf, Opening, openSenderBytes, openReceiverBytes, Sending, sendBytes, Reporting, heardBytes, lostBytes}
-use Rattle.library.specs.Calls.{Looking, lookUpBytes}
+use Rattle.library.specs.Calls.{Looking, lookUpBytes, Reading, readBy, slotDueBytes, frameSlotBytes}
 use Rattle.library.specs.Refusals.{RefusesBytes, Demand1Bytes}
 use Rattle.library.proofs.Outcomes.{open-cause, open-receiver-cause, send-cause, heard-cause, lost-cause, look-up-cause}
 
@@ -111,6 +112,15 @@ looks state rows number message answer.Accepted e =
     rw (e, lookUpBytes, none, lookUpOf) (told-number (x .settings) rows _ _)
 looks state rows number message (answer.Refused c) e = rw (e, lookUpBytes)
 
+-- ---- slots that are read
+
+abbrev unread : ℕ → Cause → Reading
+unread slot c = record { reply = numberOf c; slot = slot }
+
+reads : (a : Answer) (found slot : ℕ) → Comes (λ (r : Reading). r .reply) (unread slot) (readBy a found slot) a
+reads answer.Accepted found slot = accepted-number
+reads (answer.Refused c) found slot = refl
+
 -- ---- demand 1
 
 refuses : {R : Type 0} {Stays : Type 0} (reply : R → ℕ) (refusal : Cause → R) (r : R) → ((c : Cause) → reply (refusal c) ≡ numberOf c)
@@ -121,7 +131,7 @@ refuses reply refusal r says rs by stays = record {
 }
 
 pub demand1-bytes : Demand1Bytes
-unfolding openBytesCause openReceiverBytesCause sendBytesCause heardBytesCause lostBytesCause lookUpBytesCause
+unfolding openBytesCause openReceiverBytesCause sendBytesCause heardBytesCause lostBytesCause lookUpBytesCause slotDueBytes dueReadCause frameSlotBytes slotReadCause
 demand1-bytes = record {
   open-sender = λ settings state rows.
       let s : Settings = settingsOf settings in
@@ -149,4 +159,10 @@ demand1-bytes = record {
       refuses (λ (r : Looking). r .reply) (unlooked message) (lookUpBytes state rows number message) (λ c. refl)
       (lookUpBytesTable state rows number message)
       (looks state rows number message (lookUpBytesCause state rows number message) refl) (λ c e. ap (λ (r : Looking). r .message) e);
+  slot-due = λ state slot.
+      refuses (λ (r : Reading). r .reply) (unread slot) (slotDueBytes state slot) (λ c. refl) (dueReadTable state)
+      (reads (firstOf (dueReadTable state)) (slotAt 9 state) slot) (λ c e. ap (λ (r : Reading). r .slot) e);
+  frame-slot = λ frame slot.
+      refuses (λ (r : Reading). r .reply) (unread slot) (frameSlotBytes frame slot) (λ c. refl) (slotReadTable frame)
+      (reads (firstOf (slotReadTable frame)) (slotIn frame) slot) (λ c e. ap (λ (r : Reading). r .slot) e);
 }

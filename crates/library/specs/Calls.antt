@@ -11,9 +11,10 @@ use Rattle.protocol.specs.declared.Answer.the-variants as answer
 use Rattle.protocol.specs.Causes.{numberOf}
 use Rattle.protocol.specs.Calls.{OpenedSender, OpenedReceiver, Sent, Reported, openSenderOf, sendOf, openReceiverOf, heardOf, lossOf}
 use Rattle.protocol.specs.Calls.{Looked, lookUpOf}
-use Rattle.frames.specs.Fields.{settingsAt}
+use Rattle.protocol.specs.declared.Answer.{Answer}
+use Rattle.frames.specs.Fields.{settingsAt, slotAt, slotIn, slotReadCause}
 use Rattle.aerials.specs.Pair.{pairCause}
-use Rattle.state.specs.State.{senderBytes, receiverBytes, senderIn, receiverIn}
+use Rattle.state.specs.State.{senderBytes, receiverBytes, senderIn, receiverIn, dueReadCause}
 use Rattle.protocol.specs.Numbers.{answerNumber, replyNumber}
 use Rattle.library.specs.Causes.{openBytesCause, openReceiverBytesCause, sendBytesCause, heardBytesCause, lostBytesCause}
 use Rattle.library.specs.Causes.{lookUpBytesCause}
@@ -154,3 +155,23 @@ lookUpBytes state rows number message =
 -- the check of a pair, with the settings that a caller lends
 unfoldable pub pairBytes : List ℕ → List ℕ → List ℕ → ℕ
 pairBytes settings first second = pairCause (settingsOf settings) first second
+
+-- ---- slots that are read
+
+-- the number of such a call, and the slot that it was lent
+pub record Reading : Type 0 where
+  pub reply : ℕ
+  pub slot : ℕ
+
+-- by its cause: refused, it leaves the slot as it was; else the slot is what is read
+abbrev pub readBy : Answer → ℕ → ℕ → Reading
+readBy (answer.Refused c) found slot = record { reply = numberOf c; slot = slot }
+readBy answer.Accepted found slot = record { reply = 0; slot = found }
+
+-- the slot due that a state keeps, of either end
+unfoldable pub slotDueBytes : List ℕ → ℕ → Reading
+slotDueBytes state slot = readBy (dueReadCause state) (slotAt 9 state) slot
+
+-- the slot in the header of a frame
+unfoldable pub frameSlotBytes : List ℕ → ℕ → Reading
+frameSlotBytes frame slot = readBy (slotReadCause frame) (slotIn frame) slot

@@ -13,14 +13,16 @@ use Rattle.protocol.specs.Refusals.{First}
 use Rattle.library.specs.Causes.{openBytesTable, openReceiverBytesTable, sendBytesTable, heardBytesTable, lostBytesTable}
 use Rattle.library.specs.Causes.{lookUpBytesTable}
 use Rattle.library.specs.Calls.{settingsOf, Opening, openSenderBytes, openReceiverBytes, Sending, sendBytes}
-use Rattle.library.specs.Calls.{Reporting, heardBytes, lostBytes, Looking, lookUpBytes}
+use Rattle.frames.specs.Fields.{slotReadTable}
+use Rattle.state.specs.State.{dueReadTable}
+use Rattle.library.specs.Calls.{Reporting, heardBytes, lostBytes, Looking, lookUpBytes, Reading, slotDueBytes, frameSlotBytes}
 
 -- a call with this table that gave this number: it is a cause's number exactly if that cause is the first that holds, and then all stays
 pub record RefusesBytes (table : List Row) (number : ℕ) (Stays : Type 0) : Type 0 where
   pub first : (c : Cause) → (number ≡ numberOf c) ↔ First c table
   pub stays : (c : Cause) → number ≡ numberOf c → Stays
 
--- demand 1, of each of the six calls, with any bytes at all lent to it
+-- demand 1, of each of the eight calls, with any bytes at all lent to it
 pub record Demand1Bytes : Type 0 where
   pub open-sender : (settings state rows : List ℕ)
       → let s : Settings = settingsOf settings in
@@ -45,3 +47,9 @@ pub record Demand1Bytes : Type 0 where
   pub look-up : (state rows : List ℕ) (number : ℤ) (message : List ℕ)
       → let r : Looking = lookUpBytes state rows number message in
       RefusesBytes (lookUpBytesTable state rows number message) (r .reply) (r .message ≡ message)
+  pub slot-due : (state : List ℕ) (slot : ℕ)
+      → let r : Reading = slotDueBytes state slot in
+      RefusesBytes (dueReadTable state) (r .reply) (r .slot ≡ slot)
+  pub frame-slot : (frame : List ℕ) (slot : ℕ)
+      → let r : Reading = frameSlotBytes frame slot in
+      RefusesBytes (slotReadTable frame) (r .reply) (r .slot ≡ slot)

@@ -1,10 +1,11 @@
 -- The state that the static library's callers keep between calls, as 20 bytes.
-use mathlib.Core.Bool.{Bool, cond, not}
+use mathlib.Core.Bool.{Bool, cond, not, _||_}
 use mathlib.Core.List.{List, [], _∷_, _++_}
 use Prim.Native.Nat.{ℕ}
 use lib.Dec.{eqb}
 use lib.ListN.{length}
 use Rattle.code.specs.declared.settings.Settings.{Settings}
+use Rattle.code.specs.Settings.{accepted}
 use Rattle.protocol.specs.declared.Sender.{Sender}
 use Rattle.protocol.specs.declared.Receiver.{Receiver}
 use Rattle.protocol.specs.declared.Cause.the-variants.{BadSettings, BadLength}
@@ -73,3 +74,19 @@ stateTable end state =
 
 unfoldable pub stateCause : ℕ → List ℕ → Answer
 stateCause end state = firstOf (stateTable end state)
+
+-- bytes that begin with the mark of either end
+unfoldable pub eitherMark : List ℕ → Bool
+eitherMark state = agree 4 state (markOf senderEnd) || agree 4 state (markOf receiverEnd)
+
+-- bytes whose slot due is to be read: another length is 2; with no mark of either end, or settings that are not accepted, they are no
+-- state, and that is 1
+abbrev pub dueReadTable : List ℕ → List Row
+dueReadTable state =
+    row (not (eqb (length state) stateLen)) BadLength
+    ∷ row (not (eitherMark state)) BadSettings
+    ∷ row (not (accepted (settingsAt 4 state))) BadSettings
+    ∷ []
+
+unfoldable pub dueReadCause : List ℕ → Answer
+dueReadCause state = firstOf (dueReadTable state)

@@ -5,3 +5,4 @@ mod openings;
 mod pairs;
 mod receiving;
 mod sending;
+mod slots;
