@@ -10,10 +10,11 @@ use Rattle.protocol.specs.Lengths.{frameLen}
 use Rattle.protocol.specs.Frame.{header}
 use Rattle.aerials.specs.Pair.{framesIn, frameOf, slotOf, has, pairCause}
 use Rattle.aerials.specs.Parts.{Aerial, one, two, ofAerial, Part, bytesOf, partOf}
+use Rattle.aerials.proofs.FrameLaws.{frame-length}
 use Rattle.aerials.proofs.PairLaws.{Sound, Checked, checked}
 use Rattle.aerials.proofs.PartLaws.{frame-had, of-first, of-second, of-none, join-accepted}
 use Rattle.feeding.specs.Fed.{lent, neither}
-use Rattle.feeding.proofs.Frames.{frame-length, frame-header}
+use Rattle.feeding.proofs.Frames.{frame-header}
 
 -- what holds of both recordings holds of an aerial's
 pub of-either : (P : List ℕ → Type 0) {first second : List ℕ} → P first → P second → (whose : Aerial) → P (ofAerial whose first second)

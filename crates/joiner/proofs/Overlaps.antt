@@ -15,19 +15,13 @@ use Rattle.protocol.specs.Lengths.{frameLen}
 use Rattle.protocol.specs.Causes.{agree}
 use Rattle.aerials.specs.Pair.{framesIn, frameOf, slotOf, unlike}
 use Rattle.aerials.specs.Sound.{Rising}
+use Rattle.aerials.proofs.NextLaws.{no-lower}
 
 -- a later frame is of a later slot
 rises : (s : Settings) (recording : List ℕ) → Rising s recording → (i j : ℕ) → i < j → j < framesIn s recording
     → slotOf s recording i < slotOf s recording j
 unfolding Rising
 rises s recording rising = rising
-
-at-least : (s : Settings) (recording : List ℕ) → Rising s recording → (i j : ℕ) → i ≤ j → j < framesIn s recording
-    → slotOf s recording i ≤ slotOf s recording j
-at-least s recording rising i j h k =
-    ⊎-elim (λ same. let e = ap (slotOf s recording) same in omega arith)
-    (λ less. let more = rises s recording rising i j less k in omega arith)
-    (eq-or-lt-of-le h)
 
 module _ (s : Settings) (first second : List ℕ) where
   -- frame a of the first and frame b of the second have the same bytes if they stand for the same slot
@@ -55,7 +49,7 @@ module _ (s : Settings) (first second : List ℕ) where
           of-first = λ a b h k same.
               ⊎-elim
               (λ here. let e = ap (slotOf s first) here in
-              ⊎-elim (λ later. let more = at-least s second over j b later k in absurd (omega arith))
+              ⊎-elim (λ later. let more = no-lower s second over j b later k in absurd (omega arith))
               (λ before. p .of-second a b (omega arith) before same) (le-or-lt j b))
               (λ before. p .of-first a b before k same) (eq-or-lt-of-le (le-of-suc-le-suc h));
           of-second = p .of-second;
@@ -69,7 +63,7 @@ module _ (s : Settings) (first second : List ℕ) where
           of-second = λ a b k h same.
               ⊎-elim
               (λ here. let e = ap (slotOf s second) here in
-              ⊎-elim (λ later. let more = at-least s first up i a later k in absurd (omega arith))
+              ⊎-elim (λ later. let more = no-lower s first up i a later k in absurd (omega arith))
               (λ before. p .of-first a b before (omega arith) same) (le-or-lt i a))
               (λ before. p .of-second a b k before same) (eq-or-lt-of-le (le-of-suc-le-suc h));
         }

@@ -2,6 +2,7 @@
 pub mod Outcomes
 pub mod Refused
 pub mod Slots
+pub mod SlotsTold
 pub mod Chains
 pub mod Partners
 pub mod Demand

@@ -14,7 +14,7 @@ use Rattle.protocol.specs.Calls.{openSenderOf, openReceiverOf, sendOf, heardOf,
 use Rattle.protocol.proofs.CauseTables.{both-clear}
 use Rattle.protocol.proofs.NumberLaws.{accepted-number}
 use Rattle.protocol.proofs.Refusals.{Comes, number-first, number-refused, moved-number, told-number}
-use Rattle.frames.specs.Fields.{slotAt, slotIn, slotReadTable, slotReadCause}
+use Rattle.frames.specs.Fields.{slotReadTable, slotReadCause}
 use Rattle.state.specs.State.{senderEnd, receiverEnd, stateLen, senderIn, receiverIn, stateCause, dueReadTable, dueReadCause}
 use Rattle.library.specs.Causes.{openBytesTable, openReceiverBytesTable, sendBytesTable, heardBytesTable, lostBytesTable, lookUpBytesTable}
 use Rattle.library.specs.Causes.{openBytesCause, openReceiverBytesCause, sendBytesCause, heardBytesCause, lostBytesCause, lookUpBytesCause}
@@ -161,8 +161,8 @@ demand1-bytes = record {
       (looks state rows number message (lookUpBytesCause state rows number message) refl) (λ c e. ap (λ (r : Looking). r .message) e);
   slot-due = λ state slot.
       refuses (λ (r : Reading). r .reply) (unread slot) (slotDueBytes state slot) (λ c. refl) (dueReadTable state)
-      (reads (firstOf (dueReadTable state)) (slotAt 9 state) slot) (λ c e. ap (λ (r : Reading). r .slot) e);
+      (reads (firstOf (dueReadTable state)) _ slot) (λ c e. ap (λ (r : Reading). r .slot) e);
   frame-slot = λ frame slot.
       refuses (λ (r : Reading). r .reply) (unread slot) (frameSlotBytes frame slot) (λ c. refl) (slotReadTable frame)
-      (reads (firstOf (slotReadTable frame)) (slotIn frame) slot) (λ c e. ap (λ (r : Reading). r .slot) e);
+      (reads (firstOf (slotReadTable frame)) _ slot) (λ c e. ap (λ (r : Reading). r .slot) e);
 }

@@ -5,3 +5,4 @@ pub mod Chains
 pub mod Refusals
 pub mod Claim
 pub mod Early
+pub mod Slots

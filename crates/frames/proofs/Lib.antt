@@ -1,0 +1,2 @@
+-- The laws of what bytes say of themselves.
+pub mod SlotBytes
