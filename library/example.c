@@ -2,7 +2,7 @@
  * After it come the check of what comes out, and then the sender and the link, which loses frames, brings some late or
  * twice, and some that are not the broadcast's. Prints each slot that is reported and each frame that is dropped.
  * Returns 1 if a message under fair losses does not come out whole, as it was sent, if one that was known does not stay
- * so, or if a dropped frame changes anything. */
+ * so, if a slot is not reported, or if a dropped frame changes anything. */
 #include <stdbool.h>
 #include <stdio.h>
 #include <string.h>
@@ -152,12 +152,12 @@ static uint8_t *frame_of(int slot)
     return sent + (size_t)slot * tob_frame_len(settings);
 }
 
-/* The slots that are lost: 3 of a fade of 4, in which slot 12 is heard, then 2 scattered losses, and last a burst of
- * 6, which is not fair. */
+/* The slots in which nothing of the broadcast is heard: 3 of a fade of 4, in which slot 12 is heard, then 2 scattered
+ * losses, a burst of 6, which is not fair, and the last one and those after it, of which no later frame tells. */
 static bool is_lost(int slot)
 {
     bool fade = 10 <= slot && slot <= 13 && slot != 12;
-    return fade || slot == 24 || slot == 28 || (38 <= slot && slot <= 43);
+    return fade || slot == 24 || slot == 28 || (38 <= slot && slot <= 43) || slot >= SLOTS - 1;
 }
 
 /* What arrives besides, and is to be dropped: at which slot, of which slot it is, how many bytes are cut off its end,
@@ -212,30 +212,39 @@ static void check_pair(void)
     good = good && as_heard == TOB_ACCEPTED && changed == TOB_UNLIKE_FRAMES;
 }
 
-int main(void)
+/* Sends all messages, and keeps the frames. */
+static bool broadcast(void)
 {
     static uint8_t state[TOB_STATE_LEN], rows[TOB_SENDER_MAX], message[TOB_MESSAGE_MAX];
     size_t rows_len = tob_sender_len(settings), message_len = tob_message_len(settings);
-    size_t frame_len = tob_frame_len(settings);
-    int silent = 0;
-
     if (tob_open_sender(settings, state, sizeof state, rows, rows_len) != TOB_ACCEPTED)
-        return 1;
+        return false;
     for (int slot = 0; slot < SLOTS; slot++) {
-        known[slot] = NEVER;
         fill(message, slot);
-        if (tob_send(state, sizeof state, rows, rows_len, message, message_len, frame_of(slot), frame_len)
+        if (tob_send(state, sizeof state, rows, rows_len, message, message_len, frame_of(slot), tob_frame_len(settings))
             != TOB_ACCEPTED)
-            return 1;
-        if (slot < SWITCHED_ON)
-            continue;
+            return false;
+    }
+    return true;
+}
+
+int main(void)
+{
+    int silent = 0;
+    uint32_t due = 0;
+    if (!broadcast())
+        return 1;
+    for (int t = 0; t < SLOTS; t++)
+        known[t] = NEVER;
+    for (int slot = SWITCHED_ON; slot < SLOTS + PATIENCE; slot++) {
         bring_strays(slot);
         silent = is_lost(slot) ? silent + 1 : 0;
         if (silent == 0)
-            receive(frame_of(slot), frame_len);
+            receive(frame_of(slot), tob_frame_len(settings));
         else if (silent > PATIENCE)
             receive(NULL, 0);
     }
+    good = good && tob_slot_due(set.state, sizeof set.state, &due) == TOB_ACCEPTED && due == SLOTS;
     check_pair();
     printf("%s\n", good ? "good" : "bad");
     return good ? 0 : 1;

@@ -356,16 +356,17 @@ static void try_past_last_slot(const struct call *c)
     }
 }
 
-/* The last slot can be opened at and reported, and none after it. */
+/* The last slot can be opened at and reported, and none after it: TOB_LATE_OPENING, after TOB_BAD_LENGTH. */
 static void try_last_slot(void)
 {
     static const uint8_t opened[TOB_STATE_LEN] = {'T',  'O',  'B',  'R',  4,    3,    2,    2, 2, 0xEE,
                                                   0x6B, 0x27, 0xFF, 0xEE, 0x6B, 0x27, 0xFF, 0, 0, 0};
     lend(0);
-    now.slot = 4000000000u;
-    REFUSED(TOB_LATE_OPENING, open_receiver_at(receiver_len));
     now.slot = UINT32_MAX;
     REFUSED(TOB_LATE_OPENING, open_receiver_at(receiver_len));
+    now.slot = 4000000000u;
+    REFUSED(TOB_LATE_OPENING, open_receiver_at(receiver_len));
+    REFUSED(TOB_BAD_LENGTH, open_receiver_at(sender_len));
     now.slot = 3999999999u;
     CHECK(open_receiver_at(receiver_len) == TOB_ACCEPTED);
     CHECK(memcmp(now.state, opened, sizeof opened) == 0);
@@ -533,9 +534,9 @@ static void try_longest_recording(void)
         frame[12] = (uint8_t)(slot / 256);
         frame[13] = (uint8_t)(slot % 256);
     }
-    CHECK(tob_pair_cause(shortest, recording, 65536, recording, 0) == TOB_ACCEPTED);
-    CHECK(tob_pair_cause(shortest, recording, 65536 + 16, recording, 0) == TOB_BAD_LENGTH);
-    CHECK(tob_pair_cause(shortest, recording, 0, recording, 65536 + 16) == TOB_BAD_LENGTH);
+    CHECK(tob_pair_cause(shortest, recording, TOB_RECORDING_MAX, recording, 0) == TOB_ACCEPTED);
+    CHECK(tob_pair_cause(shortest, recording, sizeof recording, recording, 0) == TOB_BAD_LENGTH);
+    CHECK(tob_pair_cause(shortest, recording, 0, recording, sizeof recording) == TOB_BAD_LENGTH);
 }
 
 int main(void)

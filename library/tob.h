@@ -32,7 +32,7 @@
  * Where nothing is heard, a timer says when the slot due has passed: tob_lost. Between two reports tob_look_up tells
  * what is known already. A frame has no check sum of its own: the radio drops what it hears damaged.
  *
- * A frame, and a state; numbers of several bytes stand high byte first:
+ * The bytes of a frame, on the left, and of a state, on the right; numbers of several bytes stand high byte first:
  *   0 to 2    the mark, 54 4F 42 hex (TOB)               0 to 3    TOBS for a sender, TOBR for a receiver
  *   3 to 4    the version of the frame, 1                4 to 8    W, T, B, N, L
  *   5 to 9    W, T, B, N, L                              9 to 12   the slot due
@@ -41,9 +41,8 @@
  *             of L bytes, one for each lane
  *
  * The archive has objects for x86-64 Linux, called as System V says. It needs memcpy and memset, and nothing else, and
- * has some 25 KB of code and constants, and no other data. The most stack that a call takes, over all settings: 4,584
- * bytes for a report, 4,488 for a look-up, 3,464 for a send, and below 200 for any other. What memcpy and memset take
- * comes on top. */
+ * has some 25 KB of code and constants, and no other data. A report takes at most 4,600 bytes of stack, a look-up 4,500,
+ * a send 3,500 and any other call 200, whatever the settings; what memcpy and memset take comes on top. */
 #ifndef TOB_H
 #define TOB_H
 
@@ -205,7 +204,7 @@ uint32_t tob_look_up(const uint8_t *state, size_t state_len, const uint8_t *rows
                      uint8_t *message, size_t message_len);
 
 /* Reads the slot due from the state of either end, and writes it to slot. A slot past the last is read as it stands.
- * TOB_BAD_LENGTH, TOB_BAD_SETTINGS, or else TOB_ACCEPTED. */
+ * TOB_BAD_LENGTH (state), TOB_BAD_SETTINGS (a state of neither end, or its settings), or else TOB_ACCEPTED. */
 TOB_MUST_USE
 uint32_t tob_slot_due(const uint8_t *state, size_t state_len, uint32_t *slot);
 
