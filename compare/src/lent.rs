@@ -33,7 +33,7 @@ impl Lent {
     }
 
     /// The settings, which are five bytes in every call.
-    pub fn settings(&self) -> &tob::Settings {
+    pub fn settings(&self) -> &tob::calls::Settings {
         self.read().try_into().expect("settings are five bytes")
     }
 
