@@ -47,9 +47,7 @@ impl<M: Memory> Kept<M> {
     pub fn rows(&self) -> &[u8] {
         self.memory.as_ref().get(..self.rows).unwrap_or_default()
     }
-}
 
-impl<M> Kept<M> {
     /// The slot due. An open end has a state that it can be read from.
     pub fn slot_due(&self) -> u32 {
         let mut slot = 0;
@@ -61,6 +59,6 @@ impl<M> Kept<M> {
 
 impl<M> fmt::Debug for Kept<M> {
     fn fmt(&self, f: &mut fmt::Formatter<'_>) -> fmt::Result {
-        f.debug_struct("Kept").field("slot_due", &self.slot_due()).finish_non_exhaustive()
+        f.debug_struct("Kept").field("state", &self.state).finish_non_exhaustive()
     }
 }

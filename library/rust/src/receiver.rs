@@ -7,10 +7,20 @@ use crate::{calls, frame_slot, Cause};
 
 /// The receiver of a link: it is told of each slot what was heard in it, and tells of each message what became of it.
 ///
-/// A message that it hands out is in its own memory, and can be read until the next call; after a loss or a refusal there is none to read.
+/// `M` is its [`Memory`]. The caller chooses it, because settings differ so much: the rows of the largest take 30 KB, those of small ones a
+/// few dozen bytes. [`RECEIVER_MEMORY`] bytes are enough for any, and [`Settings::receiver_memory`] tells how many are needed.
 ///
-/// `M` is its [`Memory`], which the caller sizes: the rows of the longest settings take 30 KB, those of short ones a few dozen bytes.
-/// [`RECEIVER_MEMORY`] bytes are enough for any, and [`Settings::receiver_memory`] tells how many are needed.
+/// A message that is handed out stands in this memory, and can be read until the next call. So nobody reads an old one after a loss or a
+/// refusal:
+///
+/// ```compile_fail,E0499
+/// # let settings = tob::Settings { window: 4, delay: 3, burst: 2, scattered: 2, lanes: 1 };
+/// let mut receiver = tob::Receiver::open(settings, [0; 32])?;
+/// let told = receiver.lost()?;
+/// receiver.lost()?;
+/// println!("{told:?}"); // does not compile
+/// # Ok::<(), tob::Cause>(())
+/// ```
 #[derive(Debug)]
 pub struct Receiver<M = [u8; RECEIVER_MEMORY]>(Kept<M>);
 
@@ -23,7 +33,8 @@ pub enum Received {
     Late,
 }
 
-/// The most slots that a received frame may skip, which are over a minute. A frame further ahead is not believed.
+/// The most slots that a received frame may skip. One that is further ahead is not believed; where it should be, a receiver is opened at
+/// its slot.
 pub const MOST_SKIPPED: u32 = 4_095;
 
 impl<M: Memory> Receiver<M> {
@@ -40,8 +51,8 @@ impl<M: Memory> Receiver<M> {
         Ok(receiver)
     }
 
-    /// A receiver as it was when its state and its rows were saved. The memory begins with the rows. The slots since then are losses,
-    /// which [`receive`](Receiver::receive) reports.
+    /// A receiver as it was when its state and its rows were saved, with the settings that it was opened with. The memory begins with the
+    /// rows. The slots since then are losses, which [`receive`](Receiver::receive) reports.
     pub fn resume(settings: Settings, state: State, memory: M) -> Result<Receiver<M>, Cause> {
         let mut receiver = Receiver::with(settings, state, memory)?;
         // No message has this number: the library refuses this, and tells of a state that is none, or of other lengths, before.
@@ -57,8 +68,8 @@ impl<M: Memory> Receiver<M> {
     }
 
     /// Takes a frame as the radio hands it out: reports the slots that it skips as lost, then the frame itself, and tells of each slot what
-    /// its report tells. A late frame is dropped. One that is refused changes nothing and tells nothing, and neither does one that skips
-    /// more than [`MOST_SKIPPED`] slots or is past the last, which is refused with [`Cause::OtherSlot`].
+    /// its report tells. A late frame is dropped. A frame that skips more than [`MOST_SKIPPED`] slots, or is past the last, is refused with
+    /// [`Cause::OtherSlot`]. One that is dropped or refused tells nothing and changes nothing.
     pub fn receive(&mut self, frame: &[u8], mut tell: impl FnMut(u32, Told<'_>)) -> Result<Received, Cause> {
         let due = self.slot_due();
         match self.heard(frame) {

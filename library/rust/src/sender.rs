@@ -7,8 +7,8 @@ use crate::{calls, Cause};
 
 /// The sender of a link: it makes the frame of each slot.
 ///
-/// `M` is its [`Memory`], which the caller sizes: the rows of the longest settings take 14 KB, those of short ones a few dozen bytes.
-/// [`SENDER_MEMORY`] bytes are enough for any, and [`Settings::sender_memory`] tells how many are needed.
+/// `M` is its [`Memory`]. The caller chooses it, because settings differ so much: the rows of the largest take 14 KB, those of small ones a
+/// few bytes. [`SENDER_MEMORY`] bytes are enough for any, and [`Settings::sender_memory`] tells how many are needed.
 #[derive(Debug)]
 pub struct Sender<M = [u8; SENDER_MEMORY]>(Kept<M>);
 
@@ -21,7 +21,8 @@ impl<M: Memory> Sender<M> {
         Ok(sender)
     }
 
-    /// A sender as it was when its state and its rows were saved. The memory begins with the rows.
+    /// A sender as it was when its state and its rows were saved, with the settings that it was opened with. The memory begins with the
+    /// rows.
     pub fn resume(settings: Settings, state: State, memory: M) -> Result<Sender<M>, Cause> {
         let mut sender = Sender::with(settings, state, memory)?;
         // No message is empty: the library refuses this, changes nothing, and tells of a state that is none before it tells of the length.

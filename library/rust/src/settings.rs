@@ -2,12 +2,13 @@
 
 use crate::{calls, Cause};
 
-/// The settings of a link, which are the same at both ends. Which are accepted, and all lengths, the library says.
+/// The settings of a link, which are the same at both ends. Whether they are accepted, and every length, the library tells: accepted are
+/// those with 1 <= N <= B <= D, D - N + 1 + B <= 16 and 1 <= L <= 64, where D is the smaller of T and W - 1.
 #[derive(Clone, Copy, Debug, PartialEq, Eq, Hash)]
 pub struct Settings {
     /// W: the stretch of slots that the losses are counted in.
     pub window: u8,
-    /// T: how many slots after its own a message is told. A window of W slots makes it W - 1 at most.
+    /// T: how many slots after its own a message is told. It works as W - 1 where that is smaller.
     pub delay: u8,
     /// B: within how many slots in a row all may be lost.
     pub burst: u8,
@@ -31,12 +32,12 @@ pub const RECEIVER_MEMORY: usize = 30 * (1 + 16 * 64) + LONGEST_MESSAGE;
 impl Settings {
     /// The length of a message.
     pub fn message_len(self) -> Result<usize, Cause> {
-        known(calls::message_len(&self.into()))
+        length(calls::message_len(&self.into()))
     }
 
     /// The length of a frame.
     pub fn frame_len(self) -> Result<usize, Cause> {
-        known(calls::frame_len(&self.into()))
+        length(calls::frame_len(&self.into()))
     }
 
     /// The memory of a sender: its rows and a frame.
@@ -51,20 +52,20 @@ impl Settings {
 
     /// The length of a sender's rows.
     pub(crate) fn sender_rows(self) -> Result<usize, Cause> {
-        known(calls::sender_len(&self.into()))
+        length(calls::sender_len(&self.into()))
     }
 
     /// The length of a receiver's rows.
     pub(crate) fn receiver_rows(self) -> Result<usize, Cause> {
-        known(calls::receiver_len(&self.into()))
+        length(calls::receiver_len(&self.into()))
     }
 }
 
 /// A length as the library tells it: 0 for settings that are not accepted.
-fn known(len: usize) -> Result<usize, Cause> {
-    match len {
+fn length(told: usize) -> Result<usize, Cause> {
+    match told {
         0 => Err(Cause::BadSettings),
-        _ => Ok(len),
+        _ => Ok(told),
     }
 }
 

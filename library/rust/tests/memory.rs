@@ -1,27 +1,10 @@
-//! The memory of both ends: how much is enough, who may own it, what a refusal leaves of it, and saving and resuming.
+//! The memory of both ends: that it is long enough, who may own it, what a refusal leaves of it, and saving and resuming.
 
 mod common;
 
 use common::{figure_nine, receiver, sent, MEMORY, ONE_LANE, TWO_LANES};
-use tob::{Cause, Memory, Receiver, Sender, Settings, Told};
-use tob::{LONGEST_FRAME, LONGEST_MESSAGE, RECEIVER_MEMORY, SENDER_MEMORY};
+use tob::{Cause, Memory, Receiver, Sender, Told, RECEIVER_MEMORY};
 
-#[test]
-fn the_largest_settings_take_all_and_no_others_more() {
-    let mut largest = [0; 4];
-    for number in 0..18 * 18 * 16 * 16 {
-        let [window, delay, burst, scattered] = [number % 18, number / 18 % 18, number / 324 % 16, number / 324 / 16];
-        let settings = Settings::from([window as u8, delay as u8, burst as u8, scattered as u8, 64]);
-        let Ok(message) = settings.message_len() else { continue };
-        let sizes = [message, settings.frame_len().unwrap(), settings.sender_memory().unwrap(), settings.receiver_memory().unwrap()];
-        for (most, size) in largest.iter_mut().zip(sizes) {
-            *most = size.max(*most);
-        }
-    }
-    assert_eq!(largest, [LONGEST_MESSAGE, LONGEST_FRAME, SENDER_MEMORY, RECEIVER_MEMORY]);
-}
-
-/// Opens both ends in memory that is just enough, and one byte less, which is refused.
 #[test]
 fn memory_that_is_too_short_is_refused() {
     let (sender, receiver) = (TWO_LANES.sender_memory().unwrap(), TWO_LANES.receiver_memory().unwrap());
