@@ -1,4 +1,6 @@
-//! The eight calls with the things that they are lent, and the library's side of each.
+//! The ten calls with the things that they are lent, and the library's side of each.
+
+use std::ops::Range;
 
 use crate::lent::Lent;
 
@@ -12,10 +14,12 @@ pub enum Kind {
     Lost,
     LookUp,
     PairCause,
+    SlotDue,
+    FrameSlot,
 }
 
 impl Kind {
-    pub const ALL: [Kind; 8] = [
+    pub const ALL: [Kind; 10] = [
         Kind::OpenSender,
         Kind::OpenReceiver,
         Kind::OpenReceiverAt,
@@ -24,6 +28,8 @@ impl Kind {
         Kind::Lost,
         Kind::LookUp,
         Kind::PairCause,
+        Kind::SlotDue,
+        Kind::FrameSlot,
     ];
 
     pub fn name(self) -> &'static str {
@@ -36,12 +42,14 @@ impl Kind {
             Kind::Lost => "lost",
             Kind::LookUp => "look_up",
             Kind::PairCause => "pair_cause",
+            Kind::SlotDue => "slot_due",
+            Kind::FrameSlot => "frame_slot",
         }
     }
 
     /// The names of the things lent, in the order of the library's arguments. The slot of an
-    /// opening and the number of a message are handed over as numbers; here they are their four
-    /// bytes and eight, high byte first.
+    /// opening and the number of a message are handed over as numbers, and the slot that is read as
+    /// a lent one; here they are their four bytes and eight, high byte first.
     pub fn things(self) -> &'static [&'static str] {
         match self {
             Kind::OpenSender | Kind::OpenReceiver => &["settings", "state", "rows"],
@@ -51,12 +59,18 @@ impl Kind {
             Kind::Lost => &["state", "rows", "message"],
             Kind::LookUp => &["state", "rows", "number", "message"],
             Kind::PairCause => &["settings", "first", "second"],
+            Kind::SlotDue => &["state", "slot"],
+            Kind::FrameSlot => &["frame", "slot"],
         }
     }
 
-    /// Whether it is lent the settings on their own, and not in a state.
-    pub fn has_settings(self) -> bool {
-        self.things()[0] == "settings"
+    /// Where the settings stand in the first thing lent: on their own, in a state or in a frame.
+    pub fn settings(self) -> Range<usize> {
+        match self.things()[0] {
+            "settings" => 0..5,
+            "state" => 4..9,
+            _ => 5..10,
+        }
     }
 }
 
@@ -96,6 +110,14 @@ impl Call {
 
     pub fn pair_cause(settings: [u8; 5], first: Vec<u8>, second: Vec<u8>) -> Call {
         Call { kind: Kind::PairCause, things: vec![settings.to_vec(), first, second] }
+    }
+
+    pub fn slot_due(state: Vec<u8>, slot: u32) -> Call {
+        Call { kind: Kind::SlotDue, things: vec![state, slot.to_be_bytes().to_vec()] }
+    }
+
+    pub fn frame_slot(frame: Vec<u8>, slot: u32) -> Call {
+        Call { kind: Kind::FrameSlot, things: vec![frame, slot.to_be_bytes().to_vec()] }
     }
 
     /// The thing of this name, if the call is lent one.
@@ -153,6 +175,12 @@ pub fn by_library(kind: Kind, lent: &mut [Lent]) -> u32 {
         }
         (Kind::PairCause, [settings, first, second]) => {
             tob::calls::pair_cause(settings.settings(), first.read(), second.read())
+        }
+        (Kind::SlotDue, [state, slot]) => {
+            slot.number(|slot| tob::calls::slot_due(state.read(), slot))
+        }
+        (Kind::FrameSlot, [frame, slot]) => {
+            slot.number(|slot| tob::calls::frame_slot(frame.read(), slot))
         }
         _ => unreachable!("a call is lent the things of its kind"),
     }

@@ -4,7 +4,7 @@ use std::hint::black_box;
 
 use reference::settings::Settings;
 
-use crate::call::{by_library, message_number_of, Call, Kind};
+use crate::call::{by_library, message_number_of, number_of, Call, Kind};
 use crate::draw::Draws;
 use crate::lent::Lent;
 use crate::model::{by_reference, lengths, receiver_of, settings_of, STATE};
@@ -45,24 +45,68 @@ impl Comparison {
     /// Makes the call on both sides. The things are then as both left them.
     pub fn call(&mut self, call: &mut Call) -> Result<u32, Difference> {
         let before = call.clone();
-        let guards = &mut self.guards;
-        let mut lent: Vec<Lent> = call.things.iter().map(|t| Lent::of(guards, t)).collect();
-        let found = by_library(call.kind, &mut lent);
-        // Nothing is taken as unchanged because it was lent for reading only.
-        let lent = black_box(lent);
+        let (found, lent) = self.lend(call);
         let expected = by_reference(call.kind, &mut call.things);
         if found != expected || any_difference(call, &lent).is_some() {
             return Err(self.text(&before, call, &lent, [found, expected]));
         }
         self.count(&before, found);
+        if (call.kind, found) == (Kind::Heard, 6) {
+            self.other_slot(call)?;
+        }
         Ok(found)
     }
 
-    /// Counts a call and its reply, of a look-up the number that was out of reach, and of a pair
-    /// what its recordings are.
+    /// Makes the call by the library alone, where what is due is known and the reference would take
+    /// long. It is not counted.
+    pub fn library_alone(&mut self, call: &mut Call) -> Result<u32, Difference> {
+        let (reply, lent) = self.lend(call);
+        for (thing, lent) in call.things.iter_mut().zip(&lent) {
+            thing.copy_from_slice(lent.read());
+        }
+        match any_difference(call, &lent) {
+            None => Ok(reply),
+            Some(text) => Err(self.failed(&format!("{}: {text}", call.kind.name()))),
+        }
+    }
+
+    /// The library's reply, and the things as it left them.
+    fn lend(&mut self, call: &Call) -> (u32, Vec<Lent>) {
+        let guards = &mut self.guards;
+        let mut lent: Vec<Lent> = call.things.iter().map(|t| Lent::of(guards, t)).collect();
+        let reply = by_library(call.kind, &mut lent);
+        // Nothing is taken as unchanged because it was lent for reading only.
+        (reply, black_box(lent))
+    }
+
+    /// The slot that a call tells, if it is accepted. What is lent for it is drawn.
+    pub fn slot(
+        &mut self,
+        call: fn(Vec<u8>, u32) -> Call,
+        of: &[u8],
+    ) -> Result<Option<u32>, Difference> {
+        let mut call = call(of.to_vec(), self.guards.next() as u32);
+        let told = self.call(&mut call)? == 0;
+        Ok(told.then(|| number_of(call.thing("slot"))))
+    }
+
+    /// Behind a frame report that was refused with 6: the state and the frame tell slots that differ.
+    fn other_slot(&mut self, heard: &Call) -> Result<(), Difference> {
+        let due = self.slot(Call::slot_due, &heard.things[0])?;
+        let slot = self.slot(Call::frame_slot, &heard.things[2])?;
+        match due.zip(slot) {
+            Some((due, slot)) if due != slot => self.met.slots.add_other(due, slot),
+            _ => return Err(self.failed(&format!("refused with 6: due {due:?}, and {slot:?}"))),
+        }
+        Ok(())
+    }
+
+    /// Counts a call and its reply, of a look-up the number that was out of reach, of a pair what
+    /// its recordings are, and of what tells a slot what it was read from.
     fn count(&mut self, call: &Call, reply: u32) {
         let settings = settings_in(call);
         self.met.add(call.kind, reply, settings);
+        self.met.slots.add(call, reply);
         if let (Kind::LookUp, 8, Ok(state)) = (call.kind, reply, receiver_of(&call.things[0])) {
             self.met.look_ups.add_out_of_reach(&state, message_number_of(&call.things[2]));
         }
@@ -119,9 +163,8 @@ fn any_difference(expected: &Call, lent: &[Lent]) -> Option<String> {
     things.find_map(|((name, lent), due)| Some(format!("{name}, {}", lent.difference(due)?)))
 }
 
-/// The settings lent on their own, or those that the state holds.
+/// The settings lent on their own, or those that the state or the frame holds.
 fn settings_in(call: &Call) -> Option<Settings> {
-    let thing = &call.things[0];
-    let bytes = if call.kind.has_settings() { &thing[..] } else { thing.get(4..9)? };
+    let bytes = call.things[0].get(call.kind.settings())?;
     Some(settings_of(bytes.try_into().ok()?))
 }

@@ -3,16 +3,19 @@
 
 #![forbid(unsafe_code)]
 
+mod bursts;
 mod call;
 mod cases;
 mod comparison;
 mod draw;
 mod earlier;
+mod lanes;
 mod lent;
 mod look_ups;
 mod model;
 mod pairs;
 mod report;
+mod slots;
 
 use std::process::ExitCode;
 

@@ -22,9 +22,11 @@ pub const UNREAD_OF_RECEIVER: usize = 17;
 pub const SENDER: [u8; 4] = [0x54, 0x4F, 0x42, 0x53];
 pub const RECEIVER: [u8; 4] = [0x54, 0x4F, 0x42, 0x52];
 
-/// Document 01's numbers for settings that are not accepted and for a wrong length.
+/// Document 01's numbers for settings that are not accepted, for a wrong length, and for another
+/// mark or version.
 const BAD_SETTINGS: u32 = 1;
 const BAD_LENGTH: u32 = 2;
+const BAD_MARK: u32 = 4;
 
 pub fn settings_of([window, delay, burst, scattered, lanes]: [u8; 5]) -> Settings {
     Settings { window, delay, burst, scattered, lanes }
@@ -121,6 +123,8 @@ pub fn by_reference(kind: Kind, things: &mut [Vec<u8>]) -> u32 {
         (Kind::PairCause, [settings, first, second]) => {
             pair_cause(&settings_lent(settings), first, second)
         }
+        (Kind::SlotDue, [state, slot]) => told(slot_due(state), slot),
+        (Kind::FrameSlot, [frame, slot]) => told(frame_slot(frame), slot),
         _ => unreachable!("a call is lent the things of its kind"),
     }
 }
@@ -189,6 +193,39 @@ fn looked_up(state: &[u8], rows: &[u8], of: i64, message: &mut [u8]) -> u32 {
     match receiver_of(state).map(|start| receiver::look_up(start, rows, of, message)) {
         Ok(Ok(reply)) => number(reply),
         Ok(Err(refusal)) => u32::from(refusal.number()),
+        Err(cause) => cause,
+    }
+}
+
+/// The slot due that the state of either end holds, whatever number it is.
+pub fn slot_due(state: &[u8]) -> Result<u32, u32> {
+    let of_sender = sender_of(state).map(|state| (state.settings, state.due));
+    let (settings, due) =
+        of_sender.or_else(|_| receiver_of(state).map(|state| (state.settings, state.due)))?;
+    match settings.accepted() {
+        true => Ok(due),
+        false => Err(BAD_SETTINGS),
+    }
+}
+
+/// The slot in the header of a frame, whatever the settings there are and whatever is behind it.
+pub fn frame_slot(frame: &[u8]) -> Result<u32, u32> {
+    if frame.len() < frame::HEADER {
+        return Err(BAD_LENGTH);
+    }
+    if frame::mark(frame) != frame::MARK || frame::version(frame) != frame::VERSION {
+        return Err(BAD_MARK);
+    }
+    Ok(frame::slot(frame))
+}
+
+/// A call that tells a slot; a refused one leaves the lent slot as it was.
+fn told(found: Result<u32, u32>, slot: &mut [u8]) -> u32 {
+    match found {
+        Ok(found) => {
+            slot.copy_from_slice(&found.to_be_bytes());
+            0
+        }
         Err(cause) => cause,
     }
 }
@@ -322,6 +359,62 @@ mod tests {
         assert_eq!(check(Settings { delay: 4, ..settings() }, &one, &[]), 5);
         assert_eq!(check(settings(), &[&one[..], &one].concat(), &one), 9);
         assert_eq!(check(settings(), &frame::of(&settings(), 5, &[8; 4]), &one), 10);
+    }
+
+    /// The reply to a call that tells a slot, and the slot, which was 7.
+    fn read(mut call: Call) -> (u32, u32) {
+        let before = call.things[0].clone();
+        let reply = by_reference(call.kind, &mut call.things);
+        assert_eq!(call.things[0], before);
+        (reply, number_of(&call.things[1]))
+    }
+
+    #[test]
+    fn the_slot_due_of_either_end_is_told_and_2_comes_before_1() {
+        let other = Settings { lanes: 65, ..settings() };
+        let sender = |settings, due| sender_bytes(&SenderState { settings, due });
+        let due_of = |state: &[u8]| read(Call::slot_due(state.to_vec(), 7));
+        for due in [0, 0x01020304, END - 1, END, u32::MAX] {
+            for good in [state(settings(), due), sender(settings(), due)] {
+                assert_eq!(due_of(&good), (0, due));
+                assert_eq!(due_of(&good[1..]), (2, 7));
+                assert_eq!(due_of(&[&good[..], &[0]].concat()), (2, 7));
+                for place in 0..3 {
+                    let mut marked = good.clone();
+                    marked[place] ^= 1;
+                    assert_eq!(due_of(&marked), (1, 7));
+                    assert_eq!(due_of(&marked[..STATE - 1]), (2, 7));
+                }
+            }
+            for bad in [state(other, due), sender(other, due)] {
+                assert_eq!(due_of(&bad), (1, 7));
+                assert_eq!(due_of(&bad[..STATE - 1]), (2, 7));
+            }
+        }
+        let marked = |byte: u8| [&SENDER[..3], &[byte], &state(settings(), 9)[4..]].concat();
+        let told = (0..=u8::MAX).filter(|byte| due_of(&marked(*byte)) == (0, 9));
+        assert!(told.eq([RECEIVER[3], SENDER[3]]));
+        assert_eq!(due_of(&[]), (2, 7));
+    }
+
+    #[test]
+    fn the_slot_of_a_frame_is_told_from_its_header_alone_and_2_comes_before_4() {
+        let slot_of = |frame: &[u8]| read(Call::frame_slot(frame.to_vec(), 7));
+        for slot in [0, 0x01020304, END, u32::MAX] {
+            for settings in [settings(), Settings::ZEROS] {
+                let frame = frame::of(&settings, slot, &[5; 9]);
+                for length in 0..=frame.len() {
+                    let due = if length < 14 { (2, 7) } else { (0, slot) };
+                    assert_eq!(slot_of(&frame[..length]), due);
+                }
+                for place in 0..5 {
+                    let mut marked = frame.clone();
+                    marked[place] ^= 1;
+                    assert_eq!(slot_of(&marked), (4, 7));
+                    assert_eq!(slot_of(&marked[..13]), (2, 7));
+                }
+            }
+        }
     }
 
     #[test]

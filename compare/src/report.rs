@@ -4,10 +4,13 @@ use std::collections::{BTreeMap, BTreeSet};
 
 use reference::settings::{every_code, Settings};
 
+use crate::bursts::Bursts;
 use crate::call::Kind;
 use crate::earlier::Earlier;
+use crate::lanes::{Lanes, LANES};
 use crate::look_ups::LookUps;
 use crate::pairs::Pairs;
+use crate::slots::Slots;
 
 /// Every number that a call can reply; a comparison that never met one of them proves little.
 const REPLIES: [u32; 15] = [0, 1, 2, 3, 4, 5, 6, 7, 8, 9, 10, 16, 17, 18, 19];
@@ -15,7 +18,7 @@ const REPLIES: [u32; 15] = [0, 1, 2, 3, 4, 5, 6, 7, 8, 9, 10, 16, 17, 18, 19];
 /// The number of accepted (T, B, N).
 const CODES: usize = 372;
 
-type Code = (u8, u8, u8);
+pub type Code = (u8, u8, u8);
 
 /// How often each code met something.
 pub type Counts = BTreeMap<Code, usize>;
@@ -42,7 +45,7 @@ pub struct Met {
     codes: Accepted,
     /// Those with a window at or below T as set.
     short: Accepted,
-    lanes: BTreeSet<u8>,
+    pub lanes: Lanes,
     windows: BTreeSet<u8>,
     /// T as set.
     delays: BTreeSet<u8>,
@@ -59,21 +62,27 @@ pub struct Met {
     /// How many of the messages had their own slot lost, where the window was at or below T as set,
     /// by code.
     recovered_when_short: Counts,
+    /// The same where there were as many lanes as there can be.
+    recovered_with_every_lane: Counts,
+    pub bursts: Bursts,
+    pub slots: Slots,
     pub look_ups: LookUps,
     pub pairs: Pairs,
     pub earlier: Earlier,
 }
 
 impl Met {
-    /// One call and its reply; the settings are those lent on their own or those of the state.
+    /// One call and its reply; the settings are those lent on their own or those of the state or of
+    /// the frame, which may tell its slot with any.
     pub fn add(&mut self, kind: Kind, reply: u32, settings: Option<Settings>) {
         *self.replies.entry((kind, reply)).or_default() += 1;
+        let settings = settings.filter(Settings::accepted);
         if let (true, Some(s)) = (matches!(reply, 0 | 16..=19), settings) {
             self.codes.entry(code_of(&s)).or_default().insert((kind, reply));
             if is_short(&s) {
                 self.short.entry(code_of(&s)).or_default().insert((kind, reply));
             }
-            self.lanes.insert(s.lanes);
+            self.lanes.add(kind, reply, &s);
             self.windows.insert(s.window);
             self.delays.insert(s.delay);
         }
@@ -87,6 +96,7 @@ impl Met {
             (promise.earlier, &mut self.before_opening),
             (promise.earlier && promise.no_row, &mut self.before_opening_with_no_row),
             (promise.recovered && is_short(settings), &mut self.recovered_when_short),
+            (promise.recovered && settings.lanes == LANES, &mut self.recovered_with_every_lane),
         ] {
             if holds {
                 *counts.entry(code_of(settings)).or_default() += 1;
@@ -96,7 +106,7 @@ impl Met {
 
     /// Each kind of promise that some codes can have: what it is called, how often each code met
     /// it, and how many codes there are that can.
-    fn promises(&self) -> [(&'static str, &Counts, usize); 4] {
+    fn promises(&self) -> [(&'static str, &Counts, usize); 5] {
         [
             ("promised by the wider rule only", &self.fades, with_fades()),
             ("of slots before the opening", &self.before_opening, every_code().len()),
@@ -110,6 +120,7 @@ impl Met {
                 &self.recovered_when_short,
                 every_code().len(),
             ),
+            ("of a lost slot, with 64 lanes", &self.recovered_with_every_lane, every_code().len()),
         ]
     }
 
@@ -162,8 +173,14 @@ impl Met {
             lines.push(format!("{kind}s {name}: {calls}, of {codes} (T, B, N)"));
         }
         lines.push(self.pairs.text());
-        let [l, w, t] = [&self.lanes, &self.windows, &self.delays].map(BTreeSet::len);
-        lines.push(format!("different L: {l}; different W: {w}; different T as set: {t}"));
+        lines.push(self.slots.text());
+        lines.push(self.lanes.text());
+        let (messages, codes) = (grouped(self.bursts.messages()), self.bursts.covered());
+        lines.push(format!(
+            "messages with one burst of B: {messages}; (T, B, N) with every start: {codes}"
+        ));
+        let [w, t] = [&self.windows, &self.delays].map(BTreeSet::len);
+        lines.push(format!("different W: {w}; different T as set: {t}"));
         for (name, codes) in self.by_window() {
             let (met, covered) = (codes.len(), covered(codes));
             lines.push(format!("(T, B, N) {name}: {met}; with every accepted reply: {covered}"));
@@ -193,9 +210,6 @@ impl Met {
             due(met == CODES, format!("{met} (T, B, N) {name}, and not {CODES}"));
             due(covered == CODES, format!("{covered} (T, B, N) {name} met every accepted reply"));
         }
-        for lanes in [1, 2, 3, 16, 64] {
-            due(self.lanes.contains(&lanes), format!("L = {lanes} was never accepted"));
-        }
         for (name, counts, count) in self.promises() {
             let met = counts.len();
             due(met == count, format!("{met} (T, B, N) had a message {name}, and not {count}"));
@@ -204,9 +218,13 @@ impl Met {
             let met = counts.len();
             due(met == count, format!("{met} (T, B, N) had a {kind} {name}, and not {count}"));
         }
+        let met = self.bursts.covered();
+        due(
+            met == CODES,
+            format!("{met} (T, B, N) had a burst of B at every start, and not {CODES}"),
+        );
         due(self.lengths > 0 && self.fair > 0, "a part did not run".to_string());
-        missing.extend(self.pairs.missing());
-        missing
+        [missing, self.pairs.missing(), self.slots.missing(), self.lanes.missing()].concat()
     }
 }
 
@@ -237,7 +255,8 @@ fn with_long_bursts() -> usize {
     every_code().iter().filter(|code| code.k() <= usize::from(code.burst)).count()
 }
 
-/// Each cause that document 01's table and document 02 §3, §6 and §7 have for a kind of call.
+/// Each cause that document 01's table and document 02 §3, §6 and §7 have for a kind of call, and
+/// those of the two calls that tell a slot.
 fn refusals(kind: Kind) -> impl Iterator<Item = (Kind, u32)> {
     let causes: &[u32] = match kind {
         Kind::OpenSender | Kind::OpenReceiver => &[1, 2],
@@ -246,24 +265,30 @@ fn refusals(kind: Kind) -> impl Iterator<Item = (Kind, u32)> {
         Kind::Heard => &[1, 2, 3, 4, 5, 6],
         Kind::LookUp => &[1, 2, 3, 8],
         Kind::PairCause => &[1, 2, 4, 5, 9, 10],
+        Kind::SlotDue => &[1, 2],
+        Kind::FrameSlot => &[2, 4],
     };
     causes.iter().map(move |cause| (kind, *cause))
 }
 
+/// Whether the frame of slot t + T alone tells message t: k is 1, or the code only repeats.
+pub fn told_by_last_frame((delay, burst, scattered): Code) -> bool {
+    delay == scattered || (delay == burst && scattered == 1)
+}
+
 /// The accepted replies that calls with a code can give.
-fn accepted((delay, burst, scattered): Code) -> BTreeSet<(Kind, u32)> {
+fn accepted(code: Code) -> BTreeSet<(Kind, u32)> {
     let reports = (16..=19).flat_map(|reply| [(Kind::Heard, reply), (Kind::Lost, reply)]);
     let openings = [Kind::OpenSender, Kind::OpenReceiver, Kind::OpenReceiverAt];
-    let others = openings.into_iter().chain([Kind::Send, Kind::PairCause]);
-    let others = others.map(|kind| (kind, 0));
+    let others = [Kind::Send, Kind::PairCause, Kind::SlotDue, Kind::FrameSlot];
+    let others = openings.into_iter().chain(others).map(|kind| (kind, 0));
     let look_ups = (17..=19).map(|reply| (Kind::LookUp, reply));
     let mut replies: BTreeSet<_> = reports.chain(others).chain(look_ups).collect();
-    // Where k is 1, or the code only repeats, the frame of slot t + T alone tells message t.
-    if delay == scattered || (delay == burst && scattered == 1) {
+    if told_by_last_frame(code) {
         replies.remove(&(Kind::Heard, 18));
     }
     // Here the frame of slot t is then all that is known of message t, and in a look-up as well.
-    if delay == 1 {
+    if code.0 == 1 {
         replies.remove(&(Kind::Lost, 19));
         replies.remove(&(Kind::LookUp, 19));
     }
@@ -334,6 +359,35 @@ mod tests {
         let mut met = Met::default();
         every_code().iter().for_each(|code| met.add_promised(code, promise));
         assert!(met.recovered_when_short.is_empty());
+    }
+
+    #[test]
+    fn a_recovery_with_64_lanes_is_missing_until_every_code_met_one() {
+        let name = "of a lost slot, with 64 lanes";
+        let promise = Promise { recovered: true, ..Promise::default() };
+        let wide = |code: Settings| Settings { lanes: 64, ..code };
+        missing_until_met(name, every_code().into_iter().map(wide), promise);
+        let mut met = Met::default();
+        every_code().iter().for_each(|code| met.add_promised(code, promise));
+        assert!(met.recovered_with_every_lane.is_empty());
+    }
+
+    #[test]
+    fn bursts_lanes_and_slots_are_missing_until_they_were_met() {
+        let missing = Met::default().missing();
+        let of = |text: &str| missing.iter().filter(|missing| missing.contains(text)).count();
+        assert_eq!(of("had a burst of B at every start"), 1);
+        assert_eq!((of("k and L of"), of("by damage of that lane alone")), (7, 2));
+        assert_eq!(of("of states and of frames"), 2);
+    }
+
+    #[test]
+    fn a_frame_that_tells_its_slot_counts_for_a_code_where_its_settings_are_accepted() {
+        let mut met = Met::default();
+        met.add(Kind::FrameSlot, 0, Some(Settings::ZEROS));
+        assert_eq!((met.calls(), met.codes.len()), (1, 0));
+        met.add(Kind::FrameSlot, 0, Some(Settings::of_code(3, 2, 2)));
+        assert_eq!((met.calls(), met.codes.len()), (2, 1));
     }
 
     #[test]
@@ -429,6 +483,8 @@ mod tests {
         }
         assert!(refusals(Kind::LookUp).map(|(_, cause)| cause).eq([1, 2, 3, 8]));
         assert!(refusals(Kind::PairCause).map(|(_, cause)| cause).eq([1, 2, 4, 5, 9, 10]));
+        assert!(refusals(Kind::SlotDue).map(|(_, cause)| cause).eq([1, 2]));
+        assert!(refusals(Kind::FrameSlot).map(|(_, cause)| cause).eq([2, 4]));
     }
 
     #[test]

@@ -1,8 +1,10 @@
 //! A receiver's rows to be handed in. A true history needs no sender: words of the code are drawn,
 //! and their symbols travel in frames. Losses, damage and any bytes are made of it.
 
+use std::ops::Range;
+
 use reference::field::Byte;
-use reference::frame::{self, body_length, place};
+use reference::frame::{self, body_length, message_length, place};
 use reference::matrix::Matrix;
 use reference::receiver::{row_count, row_length, RECEIVED};
 use reference::settings::Settings;
@@ -63,16 +65,40 @@ impl History {
     }
 
     /// The receiver's rows at the slot due, all received.
-    fn rows(&self) -> Vec<u8> {
+    pub fn rows(&self) -> Vec<u8> {
         let (count, one) = (row_count(&self.settings), row_length(&self.settings));
         let mut rows = vec![0; count * one];
         for (back, body) in self.bodies[..count].iter().rev().enumerate() {
-            let slot = i64::from(self.due) - 1 - back as i64;
-            let start = slot.rem_euclid(count as i64) as usize * one;
+            let start = self.row_of(i64::from(self.due) - 1 - back as i64);
             rows[start] = RECEIVED;
             rows[start + 1..start + one].copy_from_slice(body);
         }
         rows
+    }
+
+    /// Where the row of a slot starts.
+    pub fn row_of(&self, slot: i64) -> usize {
+        let count = row_count(&self.settings) as i64;
+        slot.rem_euclid(count) as usize * row_length(&self.settings)
+    }
+
+    /// The rows with these slots lost; those that are not remembered say nothing.
+    pub fn rows_without(&self, lost: Range<i64>) -> Vec<u8> {
+        let mut rows = self.rows();
+        let due = i64::from(self.due);
+        let remembered = due - row_count(&self.settings) as i64..due;
+        for slot in lost.filter(|slot| remembered.contains(slot)) {
+            let start = self.row_of(slot);
+            rows[start..start + row_length(&self.settings)].fill(0);
+        }
+        rows
+    }
+
+    /// The message of a slot before the slot due, of those remembered: its symbols travel first in
+    /// its own slot.
+    pub fn message(&self, slot: i64) -> &[u8] {
+        let back = (i64::from(self.due) - slot) as usize;
+        &self.bodies[row_count(&self.settings) - back][..message_length(&self.settings)]
     }
 
     /// The receiver's rows at the slot due, with this change.

@@ -16,6 +16,7 @@ use super::losses::{
 };
 use super::opening_slots;
 use super::rows::lanes;
+use super::slots::told;
 use crate::call::Call;
 use crate::comparison::{Comparison, Difference};
 use crate::draw::Draws;
@@ -140,6 +141,7 @@ impl<'a> List<'a> {
                 self.draws.change(&mut frame[place]);
                 self.damaged |= !is_lost;
             }
+            self.tell_slots(slot, &frame)?;
             let (reply, message) = self.report((!is_lost).then_some(frame))?;
             if !self.damaged {
                 self.check_report(slot, reply, &message)?;
@@ -170,6 +172,17 @@ impl<'a> List<'a> {
         let reply = self.call(&mut call, 4)?;
         self.ends.receiver = End::left_by(&mut call);
         Ok((reply, call.take("message")))
+    }
+
+    /// Of every third slot, when it was sent and is still to be reported: both states tell the slot
+    /// due at their ends, and the frame its own.
+    fn tell_slots(&mut self, slot: u32, frame: &[u8]) -> Result<(), Difference> {
+        if slot % 3 == 0 {
+            told(self.comparison, Call::slot_due, &self.ends.sender.state, slot + 1)?;
+            told(self.comparison, Call::slot_due, &self.ends.receiver.state, slot)?;
+            told(self.comparison, Call::frame_slot, frame, slot)?;
+        }
+        Ok(())
     }
 
     /// Look-ups with this slot due, some behind refused ones.

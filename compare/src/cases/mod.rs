@@ -1,9 +1,11 @@
 //! The cases, in parts; each part goes through its cases until the first difference.
 
 mod bounds;
+mod bursts;
 mod ends;
 mod faults;
 mod history;
+mod lanes;
 mod laws;
 mod lists;
 mod look_ups;
@@ -12,6 +14,7 @@ mod openings;
 mod pairs;
 mod refused;
 mod rows;
+mod slots;
 mod twins;
 mod verdicts;
 
@@ -24,7 +27,7 @@ use crate::draw::Draws;
 
 type Part = fn(&mut Comparison) -> Result<(), Difference>;
 
-pub const PARTS: [(&str, Part); 8] = [
+pub const PARTS: [(&str, Part); 11] = [
     ("lengths", bounds::run),
     ("openings", openings::run),
     ("refused calls", refused::run),
@@ -33,6 +36,9 @@ pub const PARTS: [(&str, Part); 8] = [
     ("lists of calls", lists::run),
     ("twins", twins::run),
     ("pairs of recordings", pairs::run),
+    ("lanes", lanes::run),
+    ("bursts", bursts::run),
+    ("slots told", slots::run),
 ];
 
 /// Settings that have the delay of a code: mostly T is set to it and the window is any above it,

@@ -94,7 +94,7 @@ pub fn any_receiver_bytes(draws: &mut Draws, state: &ReceiverState) -> Vec<u8> {
 }
 
 /// Sends over any rows, one after the other.
-fn sends(
+pub fn sends(
     comparison: &mut Comparison,
     draws: &mut Draws,
     start: SenderState,
