@@ -1,5 +1,6 @@
-// Document 01's figures 9 to 12, run on both ends with one lane and then with three, and document 02's example of a short window: a line
-// for each, in which every lent byte begins as 7. Lane 1 has α times the messages of lane 0, and lane 2 has them a slot later.
+// Document 01's figures 9 to 12, run on both ends with one lane and then with three, document 02's example of a short window, and two lanes
+// whose parity differs: a line for each, in which every lent byte begins as 7. Of the three lanes, lane 1 has α times the messages of
+// lane 0, and lane 2 has them a slot later.
 use code::Settings;
 use ends::number_of;
 use protocol::Receiver;
@@ -77,8 +78,20 @@ fn three_lanes(slot: usize) -> [u8; 6] {
     }
 }
 
-// The message of a slot: with one lane that of lane 0, with zeros behind it.
+// The message of a slot in two lanes, the second of which has only the first message, with zeros behind it.
+fn two_lanes(slot: usize) -> [u8; 6] {
+    match slot {
+        0 => [1, 1, 0, 0, 0, 0],
+        1 => [0, 0, 1, 0, 0, 0],
+        _ => [0, 0, 0, 0, 0, 0],
+    }
+}
+
+// The message of a slot: with one lane that of lane 0 of three, with zeros behind it.
 fn message_of(lanes: usize, slot: usize) -> [u8; 6] {
+    if lanes == 2 {
+        return two_lanes(slot);
+    }
     let m = three_lanes(slot);
     if lanes == 1 {
         return [m[0], m[3], 0, 0, 0, 0];
@@ -257,10 +270,25 @@ fn short_window() {
     heard(2, &two, &nine);
 }
 
+// Two lanes that differ: the whole frames, and what is made of them with all heard, and without the first two.
+fn differing() {
+    let mut frames = [7u8; 156];
+    let mut remembered = [7u8; 12];
+    io::write_all(1, b"sent");
+    send_all(settings(2), 0, &mut remembered, &mut frames);
+    io::write_all(1, b"\nheard all");
+    play(settings(2), 45, 0, &frames, b"");
+    io::write_all(1, b"\nheard without 0 and 1");
+    play(settings(2), 45, 2, &frames, b"");
+    io::write_all(1, b"\n");
+}
+
 fn main() {
     figures(settings(1), 25);
     io::write_all(1, b"in three lanes\n");
     figures(settings(3), 65);
     io::write_all(1, b"in a window of three slots\n");
     short_window();
+    io::write_all(1, b"in two lanes that differ\n");
+    differing();
 }
