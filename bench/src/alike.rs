@@ -4,7 +4,6 @@ use crate::engine::{Engine, Settings, State, STATE_LEN};
 use reference::patterns::Draws;
 use reference::receiver::{self, Reply};
 use reference::{frame, sender, settings, state};
-use std::time::{Duration, Instant};
 
 /// Both ends of one version, or of the reference.
 struct Ends {
@@ -75,6 +74,9 @@ impl Ends {
     }
 }
 
+/// So many slots go on without the reference.
+const LONGER: usize = 600;
+
 /// How often a reply was given that two versions share: whole, lost and clash.
 pub type Met = [usize; 3];
 
@@ -84,12 +86,8 @@ pub fn check(engines: &[Engine], settings: &Settings, slots: usize) -> Met {
     let mut draws = Draws::start();
     let versions = [None].into_iter().chain(engines.iter().copied().map(Some));
     let mut all: Vec<Ends> = versions.map(|version| Ends::open(version, settings)).collect();
-    let (longer, mut met) = (slots + 600, [0; 3]);
-    let start = Instant::now();
-    for slot in 0..longer {
-        if slot > slots && start.elapsed() > Duration::from_millis(300) {
-            break;
-        }
+    let mut met = [0; 3];
+    for slot in 0..slots + LONGER {
         if slot == slots {
             all.remove(0);
         }

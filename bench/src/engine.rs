@@ -9,6 +9,8 @@ pub use crate::link::shape::{Settings, State, STATE_LEN};
 pub type Send = fn(&mut State, &mut [u8], &[u8], &mut [u8]) -> u32;
 /// A report of a loss.
 pub type Lost = fn(&mut State, &mut [u8], &mut [u8]) -> u32;
+/// A look-up of the message with a number.
+pub type LookUp = fn(&State, &[u8], i64, &mut [u8]) -> u32;
 
 /// The calls of one version.
 #[derive(Clone, Copy)]
@@ -19,6 +21,8 @@ pub struct Engine {
     pub send: Send,
     pub heard: Send,
     pub lost: Lost,
+    /// Ours alone has it.
+    pub look_up: Option<LookUp>,
     /// The bytes of the slot due in a state, highest first.
     pub due: [usize; 4],
 }
@@ -45,7 +49,7 @@ pub const fn planes() -> Engine {
 /// A Rust version: openings and the state are the same in all.
 const fn rust(name: &'static str, send: Send, heard: Send, lost: Lost) -> Engine {
     let (open_sender, open_receiver) = (sender::open_sender, receiver::open_receiver);
-    Engine { name, open_sender, open_receiver, send, heard, lost, due: [5, 6, 7, 8] }
+    Engine { name, open_sender, open_receiver, send, heard, lost, look_up: None, due: [5, 6, 7, 8] }
 }
 
 /// Our library, when it is linked.
@@ -65,6 +69,7 @@ pub fn ours() -> Option<Engine> {
         send: |state, rows, message, frame| tob::calls::send(state, rows, message, frame),
         heard: |state, rows, frame, message| tob::calls::heard(state, rows, frame, message),
         lost: |state, rows, message| tob::calls::lost(state, rows, message),
+        look_up: Some(|state, rows, number, message| tob::calls::look_up(state, rows, number, message)),
         due: [0; 4],
     };
     engine.due = places_of_due(&engine);

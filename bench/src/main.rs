@@ -1,17 +1,46 @@
 //! Times of our library, of two Rust versions and of two known libraries, in one table, and of the joiner in another.
 
-use bench::cases::{Case, Operation};
+use bench::cases::Case;
 use bench::engine::{self, Engine};
 use bench::joiner::{self, Joiner};
 use bench::measure::{repeated, times};
+use bench::operation::Operation;
 use bench::peers::Peers;
 use bench::shapes::SHAPES;
-use bench::{alike, table, verdicts};
-use std::fs;
-use std::process::Command;
+use bench::valgrind::Callgrind;
+use bench::{alike, instructions, single, table, verdicts, worst};
+use std::process::{Command, ExitCode};
+use std::{env, fs, thread};
+
+/// One of the modes: the times, or instructions by callgrind, whose dumps go to files of the name that is given.
+fn main() -> ExitCode {
+    let arguments: Vec<String> = env::args().skip(1).collect();
+    match &arguments.iter().map(String::as_str).collect::<Vec<_>>()[..] {
+        ["times"] => all_times(),
+        ["instructions", file] => counted(file, instructions::print),
+        ["worst", file] => counted(file, worst::print),
+        _ => {
+            eprintln!("bench: 'times', or 'instructions' and the name that callgrind writes to; bench/run calls it.");
+            return ExitCode::from(2);
+        }
+    }
+    ExitCode::SUCCESS
+}
+
+/// Counts instructions, if ours is linked and callgrind is there. It does so in a thread, whose stack lies alike in
+/// every run: copying bytes can take some instructions more or less by where they lie.
+fn counted(file: &str, count: fn(Engine, &mut Callgrind)) {
+    match (engine::ours(), Callgrind::there(file)) {
+        (Some(ours), Some(mut callgrind)) => {
+            thread::spawn(move || count(ours, &mut callgrind)).join().expect("it counts to the end");
+        }
+        (None, _) => println!("Ours is not linked: there are no instructions to count."),
+        (_, None) => println!("Callgrind does not run this: no instructions are counted."),
+    }
+}
 
 /// Checks, times and judges.
-fn main() {
+fn all_times() {
     header();
     let ours = engine::ours();
     if ours.is_none() {
@@ -25,6 +54,7 @@ fn main() {
     restoring();
     let lines = table::lines(&engines, &peers);
     table::print(&lines);
+    single::print(&engines);
     joining(&joiners);
     verdicts::against_plain(&lines);
     verdicts::in_units(&lines);
@@ -32,6 +62,7 @@ fn main() {
         verdicts::linear_in_lanes(engine);
         verdicts::independent_of_age(engine);
     }
+    verdicts::against_known(&lines);
 }
 
 /// The machine, the date and how to read the table.
@@ -42,8 +73,8 @@ fn header() {
     println!("# Times\n");
     println!("CPU: {}. Date: {}.", model.trim_start_matches([' ', '\t', ':']), String::from_utf8_lossy(&date).trim());
     println!(
-        "Nanoseconds a call: the median of {} batches (fewer for slow calls, at least 15) of at least 25 microseconds, in \
-         brackets the 10th and the 90th percentile. Ours, plain and planes take turns, batch by batch.",
+        "Nanoseconds a call: the median of {} batches (fewer for slow calls, at least 15) of at least 25 microseconds, \
+         in brackets the 10th and the 90th percentile. All versions and both libraries take turns, batch by batch.",
         table::SAMPLES
     );
     println!(
@@ -51,9 +82,15 @@ fn header() {
          call. Planes goes further, with bit planes of the coefficients in place of products: it is for the record."
     );
     println!(
-        "A report is of a frame in the slot due; with losses it is the one that hands out the first lost slot's message. \
-         Jerasure and ISA-L stand with encoding beside a send, and with decoding B or N lost vectors beside a report; \
-         jerasure's vectors are whole words, so L = 1 is 8 bytes there."
+        "A report is of a frame in the slot due; with losses it is the one that tells the first lost slot's message. \
+         Lost is the same after a burst that is one slot too long. For a clash one byte of the message's own frame was \
+         changed, in its last symbol. Worst are the losses, x, among slots t − k + 1 to t + T, after which ours takes \
+         most instructions by callgrind, of all that `bench/run worst` tried."
+    );
+    println!(
+        "Jerasure and ISA-L stand with encoding beside a send, and with decoding B or N lost vectors beside a report. \
+         Both encode with a matrix, and ISA-L with tables, made beforehand; decoding works out its own. Neither has a \
+         frame, a state or rows, or tells a clash. Jerasure's vectors are whole words, so L = 1 is 8 bytes there."
     );
 }
 

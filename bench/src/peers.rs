@@ -4,24 +4,32 @@ mod isal;
 mod jerasure;
 mod loading;
 
-use crate::measure::{repeated, times, Call, Times};
+use crate::measure::{repeated, Call};
+use crate::operation::Operation;
 use crate::shapes::Shape;
 use loading::clean_vectors;
-
-/// The times of a peer on one shape.
-#[derive(Clone, Copy)]
-pub struct PeerTimes {
-    pub encode: Times,
-    /// Decoding B lost vectors, source vectors first.
-    pub burst: Times,
-    /// Decoding N lost source vectors.
-    pub scattered: Times,
-}
 
 /// The libraries that were found.
 pub struct Peers {
     jerasure: Option<jerasure::Jerasure>,
     isal: Option<isal::Isal>,
+}
+
+/// What stands beside an operation: encoding, or decoding so many lost vectors, source vectors first.
+#[derive(Clone, Copy)]
+enum Task {
+    Encode,
+    Decode(usize),
+}
+
+/// The task beside an operation, if there is one.
+fn task(operation: Operation, shape: &Shape) -> Option<Task> {
+    match operation {
+        Operation::Send => Some(Task::Encode),
+        Operation::Burst => Some(Task::Decode(shape.burst.into())),
+        Operation::Scattered => Some(Task::Decode(shape.scattered.into())),
+        _ => None,
+    }
 }
 
 impl Peers {
@@ -34,32 +42,48 @@ impl Peers {
         (Peers { jerasure, isal }, words)
     }
 
-    /// Jerasure's times; its vectors are whole words, so one lane is timed as eight.
-    pub fn jerasure(&self, shape: &Shape, lanes: usize, samples: usize) -> Option<PeerTimes> {
-        let jerasure = self.jerasure.as_ref()?;
-        let make = |lost: u8| jerasure.code(shape, lanes.next_multiple_of(8), lost as usize);
-        let [mut whole, mut burst, mut scattered] = [0, shape.burst, shape.scattered].map(make);
-        assert!(burst.repairs() && scattered.repairs(), "jerasure does not repair its own vectors");
-        let calls = [repeated(|| whole.encode()), repeated(|| burst.decode()), repeated(|| scattered.decode())];
-        Some(peer_times(calls, samples))
-    }
-
-    /// ISA-L's times.
-    pub fn isal(&self, shape: &Shape, lanes: usize, samples: usize) -> Option<PeerTimes> {
-        let isal = self.isal.as_ref()?;
-        let make = |lost: u8| isal.code(shape, lanes, lost as usize);
-        let [mut whole, mut burst, mut scattered] = [0, shape.burst, shape.scattered].map(make);
-        assert!(burst.repairs() && scattered.repairs(), "ISA-L does not repair its own vectors");
-        let calls = [repeated(|| whole.encode()), repeated(|| burst.decode()), repeated(|| scattered.decode())];
-        Some(peer_times(calls, samples))
+    /// The calls that stand beside an operation, of each peer that is there.
+    pub fn calls(&self, operation: Operation, shape: &Shape, lanes: u8) -> Vec<(&'static str, Call<'static>)> {
+        let Some(task) = task(operation, shape) else { return Vec::new() };
+        let jerasure = self.jerasure.map(|jerasure| ("jerasure", jerasure_call(jerasure, task, shape, lanes.into())));
+        let isal = self.isal.map(|isal| ("ISA-L", isal_call(isal, task, shape, lanes.into())));
+        jerasure.into_iter().chain(isal).collect()
     }
 }
 
-/// The times of encoding and of both ways of decoding.
-fn peer_times(mut calls: [Call; 3], samples: usize) -> PeerTimes {
-    let found = times(&mut calls, samples);
-    clean_vectors();
-    PeerTimes { encode: found[0], burst: found[1], scattered: found[2] }
+/// Jerasure's call; its vectors are whole words, so one lane is timed as eight.
+fn jerasure_call(jerasure: jerasure::Jerasure, task: Task, shape: &Shape, lanes: usize) -> Call<'static> {
+    let make = |lost| jerasure.code(shape, lanes.next_multiple_of(8), lost);
+    match task {
+        Task::Encode => {
+            let mut code = make(0);
+            repeated(move || code.encode())
+        }
+        Task::Decode(lost) => {
+            let mut code = make(lost);
+            assert!(code.repairs(), "jerasure does not repair its own vectors");
+            repeated(move || code.decode())
+        }
+    }
+}
+
+/// ISA-L's call, which cleans up behind each batch.
+fn isal_call(isal: isal::Isal, task: Task, shape: &Shape, lanes: usize) -> Call<'static> {
+    let mut call = match task {
+        Task::Encode => {
+            let mut code = isal.code(shape, lanes, 0);
+            repeated(move || code.encode())
+        }
+        Task::Decode(lost) => {
+            let mut code = isal.code(shape, lanes, lost);
+            assert!(code.repairs(), "ISA-L does not repair its own vectors");
+            repeated(move || code.decode())
+        }
+    };
+    Box::new(move |times| {
+        call(times);
+        clean_vectors();
+    })
 }
 
 /// A vector of up to 64 lanes where vector instructions like it.

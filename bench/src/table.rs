@@ -1,9 +1,10 @@
 //! The times of all shapes, lanes and operations, and the table of them.
 
-use crate::cases::{Case, Operation, OPERATIONS};
+use crate::cases::Case;
 use crate::engine::Engine;
 use crate::measure::{repeated, times, Call, Times};
-use crate::peers::{PeerTimes, Peers};
+use crate::operation::{Operation, TIMED};
+use crate::peers::Peers;
 use crate::shapes::{Shape, SHAPES};
 use std::hint::black_box;
 
@@ -19,59 +20,48 @@ pub struct Line {
     pub operation: Operation,
     pub ours: Option<Times>,
     pub plain: Times,
-    planes: Times,
-    peers: [Option<Times>; 2],
+    pub planes: Times,
+    pub jerasure: Option<Times>,
+    pub isal: Option<Times>,
+}
+
+/// The case as a call to be timed.
+fn timed(case: &mut Case) -> Call<'_> {
+    repeated(|| {
+        black_box(case.call());
+    })
 }
 
 /// The call of each of these engines, lanes and slots due, in turns.
 pub fn beside(operation: Operation, shape: &Shape, which: &[(Engine, u8, u32)], samples: usize) -> Vec<Times> {
     let case = |&(engine, lanes, due): &(Engine, u8, u32)| Case::of(engine, operation, shape, lanes, due);
     let mut cases: Vec<Case> = which.iter().map(case).collect();
-    let mut calls: Vec<Call> = Vec::new();
-    for case in &mut cases {
-        calls.push(repeated(|| {
-            black_box(case.call());
-        }));
-    }
+    let mut calls: Vec<Call> = cases.iter_mut().map(timed).collect();
     times(&mut calls, samples)
 }
 
 /// All lines.
 pub fn lines(engines: &[Engine], peers: &Peers) -> Vec<Line> {
-    let mut lines = Vec::new();
-    for shape in SHAPES {
-        for lanes in [1, 64] {
-            let both = [peers.jerasure(&shape, lanes as usize, SAMPLES), peers.isal(&shape, lanes as usize, SAMPLES)];
-            lines.extend(OPERATIONS.map(|operation| line(engines, shape, lanes, operation, &both)));
-        }
-    }
-    lines
+    let each = SHAPES.iter().flat_map(|shape| [1, 64].map(|lanes| (*shape, lanes)));
+    each.flat_map(|(shape, lanes)| TIMED.map(|operation| line(engines, peers, shape, lanes, operation))).collect()
 }
 
-/// One line: all engines in turns, with what the peers take for the like.
-fn line(engines: &[Engine], shape: Shape, lanes: u8, operation: Operation, both: &[Option<PeerTimes>; 2]) -> Line {
-    let which: Vec<_> = engines.iter().map(|&engine| (engine, lanes, EARLY)).collect();
-    let found = beside(operation, &shape, &which, SAMPLES);
-    let of = |name| engines.iter().position(|engine| engine.name == name).map(|index| found[index]);
+/// One line: all engines and peers in turns.
+fn line(engines: &[Engine], peers: &Peers, shape: Shape, lanes: u8, operation: Operation) -> Line {
+    let mut cases: Vec<_> =
+        engines.iter().map(|&engine| (engine.name, Case::of(engine, operation, &shape, lanes, EARLY))).collect();
+    let all = cases.iter_mut().map(|(name, case)| (*name, timed(case))).chain(peers.calls(operation, &shape, lanes));
+    let (names, mut calls): (Vec<&str>, Vec<Call>) = all.unzip();
+    let found = times(&mut calls, SAMPLES);
+    let of = |name| names.iter().position(|other| *other == name).map(|index| found[index]);
     let [plain, planes] = ["plain", "planes"].map(|name| of(name).expect("it is always there"));
-    let peers = both.map(|peer| peer.and_then(|peer| comparable(operation, &peer)));
-    Line { shape, lanes, operation, ours: of("ours"), plain, planes, peers }
-}
-
-/// What a peer does that stands beside the operation.
-fn comparable(operation: Operation, peer: &PeerTimes) -> Option<Times> {
-    match operation {
-        Operation::Send => Some(peer.encode),
-        Operation::NothingLost => None,
-        Operation::Burst => Some(peer.burst),
-        Operation::Scattered => Some(peer.scattered),
-    }
+    Line { shape, lanes, operation, ours: of("ours"), plain, planes, jerasure: of("jerasure"), isal: of("ISA-L") }
 }
 
 /// Jerasure's time to encode (8, 8) vectors of 64 bytes.
 pub fn unit(lines: &[Line]) -> Option<Times> {
     let is = |line: &&Line| line.shape == SHAPES[0] && line.lanes == 64 && line.operation == Operation::Send;
-    lines.iter().find(is).and_then(|line| line.peers[0])
+    lines.iter().find(is).and_then(|line| line.jerasure)
 }
 
 /// The lines as a table.
@@ -92,8 +82,8 @@ pub fn print(lines: &[Line]) {
             over(Some(line.plain)),
             line.planes.to_string(),
             over(unit),
-            spread(line.peers[0]),
-            spread(line.peers[1]),
+            spread(line.jerasure),
+            spread(line.isal),
         ];
         println!("| {} |", cells.join(" | "));
     }

@@ -1,8 +1,9 @@
 //! The asked ratios, each with 'holds' or 'does not hold'.
 
-use crate::cases::{Operation, OPERATIONS};
 use crate::engine::Engine;
 use crate::joiner::table as joiner;
+use crate::measure::Times;
+use crate::operation::{Operation, TIMED};
 use crate::shapes::{Shape, SHAPES};
 use crate::table::{beside, unit, Line, EARLY};
 
@@ -59,6 +60,33 @@ pub fn joiner_against_quick(lines: &[joiner::Line]) {
     }
 }
 
+/// Ours beside planes and the two known libraries with 64 lanes, by medians, whichever is faster.
+pub fn against_known(lines: &[Line]) {
+    println!("\nWhat is faster than ours and what is slower, L = 64, by medians; above 1 ours takes longer:\n");
+    for (ours, theirs, operation) in [
+        ("send", "encode", Operation::Send),
+        ("report after a burst", "decode of B lost vectors", Operation::Burst),
+        ("report after scattered losses", "decode of N lost vectors", Operation::Scattered),
+    ] {
+        let these = || lines.iter().filter(|line| line.lanes == 64 && line.operation == operation);
+        ratios(&format!("our {ours} to ISA-L's {theirs}"), these().map(|line| (line, line.isal)));
+        ratios(&format!("our {ours} to jerasure's {theirs}"), these().map(|line| (line, line.jerasure)));
+        ratios(&format!("our {ours} to that of planes"), these().map(|line| (line, Some(line.planes))));
+    }
+}
+
+/// Ours divided by the other of each line, and in how many the other is faster.
+fn ratios<'a>(what: &str, lines: impl Iterator<Item = (&'a Line, Option<Times>)>) {
+    let ratio = |(line, other): (&Line, Option<Times>)| Some((line.shape, line.ours?.median / other?.median));
+    let found: Vec<(Shape, f64)> = lines.filter_map(ratio).collect();
+    let text: Vec<String> = found.iter().map(|(shape, ratio)| format!("{ratio:.2} at {}", shape.name())).collect();
+    if found.is_empty() {
+        return println!("- {what}: not measured");
+    }
+    let faster = found.iter().filter(|(_, ratio)| *ratio > 1.0).count();
+    println!("- {what}: {}; ours takes longer in {faster} of {}", text.join(", "), found.len());
+}
+
 /// Each send of ours at most 3 units, each report at most 6, by medians.
 pub fn in_units(lines: &[Line]) {
     let Some(unit) = unit(lines) else {
@@ -109,7 +137,7 @@ pub fn independent_of_age(engine: Engine) {
 /// Judges each shape and operation.
 fn each_case(judge: impl Fn(&Shape, Operation) -> (bool, String)) {
     for shape in SHAPES {
-        for operation in OPERATIONS {
+        for operation in TIMED {
             let (holds, text) = judge(&shape, operation);
             say(holds, &format!("{} {}: {text}", shape.name(), operation.name(&shape)));
         }

@@ -1,7 +1,7 @@
 //! The pairs of recordings that are timed: as many frames of one meeting as fit, the sender's own.
 
-use crate::cases::Sender;
 use crate::engine::plain;
+use crate::history::Sender;
 use crate::link::shape::{frame_len, Settings};
 use crate::plain::joiner::LONGEST;
 use reference::patterns::Draws;
