@@ -18,7 +18,8 @@ enum Kind {
     LookUp(i64),
 }
 
-/// A call with the state before it and everything it is lent.
+/// A call with the state before it and everything it is lent, which all lies alike in every case.
+#[repr(align(64))]
 pub struct Case {
     engine: Engine,
     kind: Kind,

@@ -10,7 +10,7 @@ use bench::shapes::SHAPES;
 use bench::valgrind::Callgrind;
 use bench::{alike, instructions, single, table, verdicts, worst};
 use std::process::{Command, ExitCode};
-use std::{env, fs, thread};
+use std::{env, fs};
 
 /// One of the modes: the times, or instructions by callgrind, whose dumps go to files of the name that is given.
 fn main() -> ExitCode {
@@ -27,13 +27,10 @@ fn main() -> ExitCode {
     ExitCode::SUCCESS
 }
 
-/// Counts instructions, if ours is linked and callgrind is there. It does so in a thread, whose stack lies alike in
-/// every run: copying bytes can take some instructions more or less by where they lie.
+/// Counts instructions, if ours is linked and callgrind is there.
 fn counted(file: &str, count: fn(Engine, &mut Callgrind)) {
     match (engine::ours(), Callgrind::there(file)) {
-        (Some(ours), Some(mut callgrind)) => {
-            thread::spawn(move || count(ours, &mut callgrind)).join().expect("it counts to the end");
-        }
+        (Some(ours), Some(mut callgrind)) => count(ours, &mut callgrind),
         (None, _) => println!("Ours is not linked: there are no instructions to count."),
         (_, None) => println!("Callgrind does not run this: no instructions are counted."),
     }

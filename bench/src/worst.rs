@@ -3,6 +3,7 @@
 use crate::cases::Case;
 use crate::engine::Engine;
 use crate::history::Reporting;
+use crate::instructions::repeat;
 use crate::operation::{pattern, Losses};
 use crate::shapes::{Shape, SHAPES};
 use crate::table::EARLY;
@@ -10,7 +11,6 @@ use crate::valgrind::Callgrind;
 use reference::patterns::Draws;
 use std::cmp::Reverse;
 use std::collections::BTreeMap;
-use std::hint::black_box;
 
 /// Of so few slots all losses are tried.
 const ALL: usize = 10;
@@ -96,9 +96,7 @@ fn of_shape(ours: Engine, callgrind: &mut Callgrind, shape: &Shape) -> Found {
     let heard = Reporting::from(&shape.settings(64), EARLY);
     search(shape.slots(), |losses| {
         let mut case = Case::report(ours, &heard.without(losses));
-        callgrind.count(|| {
-            black_box(case.call());
-        })
+        callgrind.count(|| repeat(&mut case, 1))
     })
 }
 
