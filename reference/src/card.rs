@@ -1,5 +1,5 @@
-//! The card's figures 9 to 12, as CARD.md describes them: in one lane, and then in three; and the
-//! example of a window shorter than the delay that was set.
+//! The card's figures 9 to 12, as CARD.md describes them: in one lane, and then in three; the
+//! example of a window shorter than the delay that was set; and two lanes that differ.
 
 use crate::broadcast::{self, Frames};
 use crate::frame;
@@ -15,6 +15,9 @@ const IN_ONE_LANE: [[u8; 2]; 6] = [[1, 0], [0, 1], [0; 2], [0; 2], [0; 2], [0; 2
 const IN_THREE_LANES: [[u8; 6]; 6] =
     [[1, 16, 0, 0, 0, 0], [0, 0, 1, 1, 16, 0], [0, 0, 0, 0, 0, 1], [0; 6], [0; 6], [0; 6]];
 
+/// The messages in two lanes that differ: symbol 0 of lanes 0 and 1, and then symbol 1.
+const IN_TWO_LANES: [[u8; 4]; 6] = [[1, 1, 0, 0], [0, 0, 1, 0], [0; 4], [0; 4], [0; 4], [0; 4]];
+
 /// All lines, without their newlines.
 pub fn lines() -> Vec<String> {
     let mut lines = figures(1, &IN_ONE_LANE.map(Vec::from));
@@ -22,6 +25,8 @@ pub fn lines() -> Vec<String> {
     lines.extend(figures(3, &IN_THREE_LANES.map(Vec::from)));
     lines.push("in a window of three slots".to_string());
     lines.extend(short_window());
+    lines.push("in two lanes that differ".to_string());
+    lines.extend(two_lanes());
     lines
 }
 
@@ -58,6 +63,19 @@ fn short_window() -> Vec<String> {
         line(&format!("heard {}", settings[this].delay), &replies(settings[this], &reports))
     };
     vec![sent(0), sent(1), heard(0), heard(1)]
+}
+
+/// The three lines of two lanes that differ: the frames, and the replies when all of them are
+/// heard, and when slots 0 and 1 are lost.
+fn two_lanes() -> Vec<String> {
+    let settings = Settings { lanes: 2, ..Settings::of_code(3, 2, 2) };
+    let frames = broadcast::of(settings, &IN_TWO_LANES.map(Vec::from));
+    let whole: Vec<String> = frames.iter().map(|frame| hex(frame)).collect();
+    vec![
+        line("sent", &whole),
+        line("heard all", &replies(settings, &with_losses(&frames, &[]))),
+        line("heard without 0 and 1", &replies(settings, &with_losses(&frames, &[0, 1]))),
+    ]
 }
 
 /// What the line is, and its parts.

@@ -151,6 +151,39 @@ mod tests {
     }
 
     #[test]
+    fn a_window_longer_than_the_delay_and_shorter_than_what_a_message_sees() {
+        // W is 8: message t has slots t − 4 to t + 5. Between two bursts 7 slots are heard, or 6.
+        let code = Settings { window: 8, ..Settings::of_code(5, 2, 1) };
+        let (apart, nearer) = (lost(20, [3, 4, 12, 13]), lost(20, [3, 4, 11, 12]));
+        let kept = |window: u8, lost: &[bool]| -> Vec<u32> {
+            let code = Settings { window, ..code };
+            (0..15).filter(|&t| promised(&code, 0, lost, t)).collect()
+        };
+        assert!(kept(8, &apart).into_iter().eq(0..15));
+        assert!(kept(8, &nearer).into_iter().eq((0..6).chain(9..15)));
+        // In the narrowest window both are kept, and in the widest neither is.
+        assert!(kept(6, &nearer).into_iter().eq(0..15));
+        assert!(kept(255, &apart).into_iter().eq((0..7).chain(9..15)));
+    }
+
+    #[test]
+    fn two_losses_are_fair_from_w_slots_apart_on() {
+        // N is 1, and losses B slots apart are too far for a burst. Message k − 1 has the slots
+        // from 0 on; of them slot 0 is lost, and one more.
+        for code in every_code().iter().filter(|code| code.scattered == 1) {
+            let slots = code.k() + code.t();
+            let is_promised = |window: usize, apart: usize| {
+                let settings = Settings { window: window as u8, ..*code };
+                promised(&settings, 0, &lost(slots, [0, apart]), code.k() as u32 - 1)
+            };
+            for window in code.t() + 1..=slots + 1 {
+                let kept = (code.burst.into()..slots).filter(|&apart| is_promised(window, apart));
+                assert!(kept.eq(window..slots), "{code:?} {window}");
+            }
+        }
+    }
+
+    #[test]
     fn the_wider_rule_is_wider_and_a_frame_more_never_harms() {
         for code in every_code().iter().filter(|code| code.t() <= 8) {
             for stretch in every(9).filter(|stretch| fair_by_01(code, stretch)) {

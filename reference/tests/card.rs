@@ -1,4 +1,5 @@
-//! The lines of the card: figures 9 to 12, in one lane and in three, and the short window.
+//! The lines of the card: figures 9 to 12, in one lane and in three, the short window, and two
+//! lanes that differ.
 
 #![forbid(unsafe_code)]
 
@@ -12,10 +13,11 @@ fn behind(figure: u8, line: &str) -> Vec<String> {
 }
 
 #[test]
-fn there_are_four_lines_in_one_lane_and_four_in_three_and_four_of_the_short_window() {
+fn the_parts_of_the_card_have_their_headings_and_lines() {
     let lines = card::lines();
-    assert_eq!(lines.len(), 14);
-    assert_eq!((&lines[4][..], &lines[9][..]), ("in three lanes", "in a window of three slots"));
+    let headings = ["in three lanes", "in a window of three slots", "in two lanes that differ"];
+    assert_eq!([4, 9, 14].map(|at| &lines[at][..]), headings);
+    assert_eq!(lines.len(), 18);
     for half in [&lines[..4], &lines[5..9]] {
         for (figure, line) in (9..).zip(half) {
             let messages = line.matches("whole ").count();
@@ -82,5 +84,27 @@ fn frames_of_the_short_window_differ_in_t_alone() {
 fn a_receiver_of_the_short_window_hears_its_own_sender_only() {
     let own = ["none", "none", "whole 0100", "whole 0001", "whole 0000", "whole 0000"];
     let replies: String = own.iter().map(|reply| format!(" 5 {reply}")).collect();
-    assert_eq!(card::lines()[12..], [format!("heard 9{replies}"), format!("heard 2{replies}")]);
+    assert_eq!(card::lines()[12..14], [format!("heard 9{replies}"), format!("heard 2{replies}")]);
+}
+
+#[test]
+fn two_lanes_that_differ() {
+    // By figure 6 the first symbols 1 1 of lane 0 have the parity 01 18 in hex, and the 1 0 of
+    // lane 1 have 03 1b. They are the only codewords that are not zeros.
+    let bodies = [
+        "0101000000000000",
+        "0000010000000000",
+        "0000000001030000",
+        "000000000000181b",
+        "0000000000000000",
+        "0000000000000000",
+    ];
+    let frame = |slot: usize| format!(" 544f4200010403020202{slot:08x}{}", bodies[slot]);
+    let replies = "none none none whole 01010000 whole 00000100 whole 00000000";
+    let expected = [
+        format!("sent{}", (0..6).map(frame).collect::<String>()),
+        format!("heard all {replies}"),
+        format!("heard without 0 and 1 {replies}"),
+    ];
+    assert_eq!(card::lines()[15..], expected);
 }

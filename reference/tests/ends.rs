@@ -150,18 +150,35 @@ fn a_loss_writes_zeros_over_the_whole_row() {
 }
 
 #[test]
-fn rows_of_slots_before_0_say_what_arrived() {
-    // The codewords of message 0 start at slots −1 and 0; slot −1 sits in row 4 of 5.
+fn a_row_is_received_exactly_if_its_first_byte_is_1() {
+    // The codewords of message 0 start at slots −1 and 0; slot −1 sits in row 4 of 5. Its symbol 0
+    // is made another than the zero sent: received, no word fits, and lost, it is repaired.
     let frames = frames_of_case_9(4);
-    let mut receiver = Receiver::open(card());
-    let at = 4 * receiver::row_length(&card());
-    // A mark of 2 means lost: one erasure is still repaired.
-    receiver.rows[at] = 2;
-    assert_eq!(last_reply(&mut receiver, &frames), whole([1, 0]));
-    // Received, but symbol 0 is another than the zero sent: no word fits.
-    let mut receiver = Receiver::open(card());
-    receiver.rows[at + 1] = 9;
-    assert_eq!(last_reply(&mut receiver, &frames), nothing(Reply::Clash));
+    for mark in 0..=255 {
+        let mut receiver = Receiver::open(card());
+        let row = &mut receiver.rows[4 * receiver::row_length(&card())..];
+        row[..2].copy_from_slice(&[mark, 9]);
+        let expected = if mark == 1 { nothing(Reply::Clash) } else { whole([1, 0]) };
+        assert_eq!(last_reply(&mut receiver, &frames), expected, "{mark}");
+    }
+}
+
+#[test]
+fn a_clash_comes_before_a_loss() {
+    // By figure 8 symbol 2 of a word of (2,2,1) is 16 times symbol 0, and symbol 3 is 16 times
+    // symbol 1. All that is sent is zeros; slots 1 and 3 are lost, and with them both symbols of
+    // message 1 in either lane.
+    let settings = Settings { lanes: 2, ..Settings::of_code(2, 2, 1) };
+    let mut frames: Vec<Vec<u8>> = (0..4).map(|slot| frame::of(&settings, slot, &[0; 8])).collect();
+    let of_message_1 = |frames: &[Vec<u8>]| replies(frames, &[1, 3])[3].clone();
+    assert_eq!(of_message_1(&frames), (Reply::Lost, vec![0; 4]));
+    // The codeword that starts at slot 0 has symbol 0 in slot 0, and symbol 2 in slot 2, where one
+    // lane now says otherwise: nothing fits there, while the other three codewords are still lost.
+    for lane in 0..2 {
+        frames[2][frame::HEADER + 4 + lane] = 1;
+        assert_eq!(of_message_1(&frames), (Reply::Clash, vec![0; 4]), "{lane}");
+        frames[2][frame::HEADER + 4 + lane] = 0;
+    }
 }
 
 #[test]
@@ -300,6 +317,21 @@ fn frame_reports_are_refused_for_the_first_cause() {
     }
     assert_eq!(refused_report(open, 25, Some(&frame), 2), 6);
     assert_eq!(refused_report(ReceiverState { due: 2, ..open }, 25, Some(&frame), 2), 6);
+}
+
+#[test]
+fn a_frame_is_refused_with_6_if_any_bit_of_its_slot_differs() {
+    let due = 0x1234_5678;
+    let state = ReceiverState { settings: card(), opened_at: 0, due };
+    for bit in 0..32 {
+        let other = frame::of(&card(), due ^ (1 << bit), &[0; 4]);
+        assert_eq!(refused_report(state, 25, Some(&other), 2), 6, "{bit}");
+    }
+    let mut receiver = Receiver::open(card());
+    receiver.state = state;
+    let heard = frame::of(&card(), due, &[0; 4]);
+    assert_eq!(heard[10..14], [0x12, 0x34, 0x56, 0x78]);
+    assert_eq!(receiver.report(Some(&heard)), whole([0, 0]));
 }
 
 #[test]
