@@ -1,4 +1,5 @@
-//! The two ends: "Figures on the card" 9 to 12, each refusal, and the last slot.
+//! The two ends: "Figures on the card" 9 to 12, what the rows say, clash before lost, each refusal,
+//! and the last slot.
 
 #![forbid(unsafe_code)]
 

@@ -147,9 +147,11 @@ fn the_first_report_tells_of_the_message_t_slots_before_the_opening() {
 fn any_opening_slot_is_carried_and_is_no_cause_for_anything() {
     let code = Settings::of_code(3, 3, 2);
     let mut draws = Draws::from(20261125);
-    let (_, frames) = sent_until(&mut draws, code, 40);
+    let (messages, frames) = sent_until(&mut draws, code, 40);
     let heard = &frames[frames.len() - 1];
-    let rows = draws.bytes(receiver::rows_length(&code));
+    // Slots 35 to 39 were heard, and slot 35 sits in row 0: message 37 is whole either way.
+    let of_frame = |frame: &Vec<u8>| [&[receiver::RECEIVED], frame::body(frame)].concat();
+    let rows: Vec<u8> = frames[..row_count(&code)].iter().flat_map(of_frame).collect();
     let report = |opened_at: u32, frame: Option<&[u8]>| {
         let state = ReceiverState { settings: code, opened_at, due: 40 };
         let (mut rows, mut buffer) = (rows.clone(), vec![FILL; code.k()]);
@@ -162,7 +164,8 @@ fn any_opening_slot_is_carried_and_is_no_cause_for_anything() {
     };
     for (frame, accepted) in [(None, true), (Some(&heard[..]), true), (Some(&heard[1..]), false)] {
         let at_0 = report(0, frame);
-        assert_eq!(at_0.0.is_ok(), accepted);
+        let buffer = if accepted { &messages[2] } else { &vec![FILL; code.k()] };
+        assert_eq!((at_0.0 == Ok(Reply::Whole), &at_0.2), (accepted, buffer));
         for opened_at in [39, 40, 41, 3_999_999_999, 4_000_000_000, u32::MAX] {
             assert_eq!(report(opened_at, frame), at_0);
         }

@@ -46,10 +46,13 @@ fn names_differ_and_the_files_stay_small() {
 
 #[test]
 fn an_example_stops_as_its_name_says() {
+    let mut stops = 0;
     for (name, one) in played().iter().filter(|(name, _)| name.starts_with("stop-")) {
         let stop = format!("stop {}", &name[5..6]);
         assert_eq!(one.printed.lines().last(), Some(stop.as_str()), "{name}");
+        stops += 1;
     }
+    assert_eq!(stops, 17);
     assert!(printed("gap-4096").ends_with("stop 6\n"));
     assert_eq!(printed("full-and-one"), "stop 2\n");
     let to_the_end = ["card", "clean", "july", "damaged", "gap-4095", "full", "full-long-frames"];
