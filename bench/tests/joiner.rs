@@ -73,3 +73,10 @@ fn the_joiners_are_the_reference_on_drawn_pairs() {
     let causes: BTreeSet<usize> = (0..11).filter(|&cause| met[cause] >= 20).collect();
     assert!(causes.into_iter().eq([0, 1, 2, 4, 5, 9, 10]), "{met:?}");
 }
+
+/// As before the joiner is timed.
+#[cfg(feature = "ours")]
+#[test]
+fn ours_is_the_reference_on_full_pairs() {
+    joiner::alike::check(&[joiner::ours().expect("it is linked")]);
+}

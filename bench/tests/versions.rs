@@ -182,8 +182,9 @@ fn windows_at_or_below_t() {
 
 #[test]
 fn broadcasts_are_alike_where_the_window_makes_the_delay() {
+    let versions: Vec<Engine> = engine::ours().into_iter().chain(VERSIONS).collect();
     for settings in [[3, 9, 2, 1, 1], [9, 9, 8, 1, 2], [12, 255, 8, 4, 3]] {
-        let [whole, lost, _] = alike::check(&VERSIONS, &settings, 80);
+        let [whole, lost, _] = alike::check(&versions, &settings, 80);
         assert!(whole > 0 && lost > 0, "{settings:?}: {whole} whole, {lost} lost");
     }
 }
