@@ -90,7 +90,7 @@ impl Comparison {
         Ok(told.then(|| number_of(call.thing("slot"))))
     }
 
-    /// Behind a frame report that was refused with 6: the state and the frame tell slots that differ.
+    /// Behind a frame report that was refused with 6: state and frame tell slots that differ.
     fn other_slot(&mut self, heard: &Call) -> Result<(), Difference> {
         let due = self.slot(Call::slot_due, &heard.things[0])?;
         let slot = self.slot(Call::frame_slot, &heard.things[2])?;

@@ -23,7 +23,7 @@ const REPLIES: [(Kind, u32); 7] = [
     (Kind::LookUp, 17),
 ];
 
-/// The first lane and the last of each 16: where vectors of 16 bytes, or of 32 or 64, begin and end.
+/// The first lane and the last of each 16: where vectors of 16, 32 or 64 bytes begin and end.
 const EDGES: [u8; 8] = [0, 15, 16, 31, 32, 47, 48, 63];
 /// Where L is one of these, every lane is to be damaged.
 const EVERY_LANE: [u8; 2] = [16, 64];

@@ -43,8 +43,8 @@ impl Lent {
         self.read().try_into().expect("settings are five bytes")
     }
 
-    /// The four bytes, lent as a number for the time of a call. A number stands at an address of its
-    /// own kind: the guard bytes next to it are numbers for that time as well.
+    /// The four bytes, lent as a number for the time of a call. It stands at an address that is
+    /// right for one: the guard bytes next to it are numbers for that time as well.
     pub fn number(&mut self, call: impl FnOnce(&mut u32) -> u32) -> u32 {
         assert_eq!(self.end - self.start, NUMBER);
         let bytes = &mut self.held[self.start - GUARD..self.end + GUARD];

@@ -7,7 +7,7 @@ use reference::frame::{self, HEADER, MARK, VERSION};
 use reference::state::END;
 
 use crate::call::{number_of, Call, Kind};
-use crate::model::{settings_of, RECEIVER, SENDER};
+use crate::model::{settings_of, DUE, RECEIVER, SENDER};
 use crate::report::grouped;
 
 /// Slots that must have been told: the first, the last, the one behind it, and the greatest number.
@@ -63,23 +63,18 @@ impl Slots {
     }
 
     fn add_state(&mut self, state: &[u8], reply: u32) {
-        let marks = [(Source::Sender, SENDER), (Source::Receiver, RECEIVER)];
-        let end = marks.into_iter().find(|(_, mark)| state.starts_with(mark)).map(|(end, _)| end);
-        let settings = state.get(4..9).map(|s| settings_of(s.try_into().expect("five bytes")));
-        let refused = settings.is_some_and(|settings| !settings.accepted());
+        let (end, refused) = (end_of(state), has_bad_settings(state));
         match (reply, end) {
-            (0, Some(end)) => self.add_told(end, number_of(&state[9..13])),
-            (1, Some(end)) => drop(self.settings.insert(end)),
+            (0, Some(end)) => self.add_told(end, number_of(&state[DUE])),
             (1, None) if !refused => self.add_mark(Kind::SlotDue, &changed(state, &SENDER)),
-            (2, _) => {
+            (1, _) => self.settings.extend(end),
+            _ => {
                 self.refused_lengths.insert((Kind::SlotDue, state.len()));
-                match end {
-                    Some(end) if refused => drop(self.settings_behind_length.insert(end)),
-                    None if state.len() >= 4 => drop(self.mark_behind_length.insert(Kind::SlotDue)),
-                    _ => (),
+                self.settings_behind_length.extend(end.filter(|_| refused));
+                if end.is_none() && state.len() >= SENDER.len() {
+                    self.mark_behind_length.insert(Kind::SlotDue);
                 }
             }
-            _ => (),
         }
     }
 
@@ -167,6 +162,18 @@ impl Slots {
         let short = self.counts().into_iter().filter(|(_, met, due)| met < due);
         short.map(|(name, met, due)| format!("{name}: {met}, and not {due} or more")).collect()
     }
+}
+
+/// The end whose mark a state has.
+fn end_of(state: &[u8]) -> Option<Source> {
+    let marks = [(Source::Sender, SENDER), (Source::Receiver, RECEIVER)];
+    marks.into_iter().find(|(_, mark)| state.starts_with(mark)).map(|(end, _)| end)
+}
+
+/// Whether a state, of any length, has settings that are not accepted.
+fn has_bad_settings(state: &[u8]) -> bool {
+    let settings = state.get(4..9).and_then(|bytes| bytes.try_into().ok()).map(settings_of);
+    settings.is_some_and(|settings| !settings.accepted())
 }
 
 /// The places at which what there is of the bytes is not as it should be.

@@ -1,6 +1,6 @@
 //! One burst of exactly B losses and nothing else: with one lane it starts at every slot, with 64
-//! at any. Each message is whole, as sent, on time (demand 3). The reports of the messages that were
-//! lost in it are compared; the others are made by the library alone, as are the sends.
+//! at any. Each message is whole, as sent, on time (demand 3). The reports of the messages whose
+//! slots it loses are compared; the others are made by the library alone, as are the sends.
 
 use std::ops::Range;
 
