@@ -41,8 +41,8 @@ pub fn run(comparison: &mut Comparison) -> Result<(), Difference> {
         for case in 0..EACH + 2 {
             let mut draws = comparison.case("rows handed in");
             let (lanes, slots) = match case {
-                EACH => (16, 3),
-                case if case > EACH => (64, 2),
+                EACH => (16, 2),
+                case if case > EACH => (64, 1),
                 _ => (lanes(&mut draws, &code), SLOTS),
             };
             let settings = super::settings(&mut draws, &code, lanes);
