@@ -62,11 +62,11 @@ module _ (state : List ℕ) (settled : T (accepted (settingsAt 4 state))) where
   uncaused end none either =
       rw (eq-eqb (length state) stateLen (uncaused-length end state none), either, is-true (accepted (settingsAt 4 state)) settled)
 
-  pub sender-tells : stateCause senderEnd state ≡ answer.Accepted → (was : ℕ) → Tells (slotDueBytes state was) (slotAt 9 state)
+  sender-tells : stateCause senderEnd state ≡ answer.Accepted → (was : ℕ) → Tells (slotDueBytes state was) (slotAt 9 state)
   unfolding slotDueBytes eitherMark
   sender-tells none was = rw (uncaused senderEnd none (rw (marked senderEnd none) refl)) refl
 
-  pub receiver-tells : stateCause receiverEnd state ≡ answer.Accepted → (was : ℕ) → Tells (slotDueBytes state was) (slotAt 9 state)
+  receiver-tells : stateCause receiverEnd state ≡ answer.Accepted → (was : ℕ) → Tells (slotDueBytes state was) (slotAt 9 state)
   unfolding slotDueBytes eitherMark
   receiver-tells none was = rw (uncaused receiverEnd none (either (agree 4 state (markOf senderEnd)) (marked receiverEnd none))) refl
     where

@@ -18,9 +18,11 @@ Tells r slot = r ≡ record { reply = 0; slot = slot }
 
 -- the states that are read are those that calls leave, with whatever stood in the slot that was lent
 pub record SlotsTell : Type 0 where
+  -- an opening leaves its slot due: a sender's is slot 0
   pub opened-sender : (settings state rows : List ℕ) (was : ℕ) → openSenderBytes settings state rows .reply ≡ 0
       → Tells (slotDueBytes (openSenderBytes settings state rows .state) was) 0
-  pub opened-receiver : (settings : List ℕ) (slot : ℕ) (state rows : List ℕ) (was : ℕ) → openReceiverBytes settings slot state rows .reply ≡ 0
+  pub opened-receiver : (settings : List ℕ) (slot : ℕ) (state rows : List ℕ) (was : ℕ)
+      → openReceiverBytes settings slot state rows .reply ≡ 0
       → Tells (slotDueBytes (openReceiverBytes settings slot state rows .state) was) slot
   -- an accepted send and an accepted report move it on by one
   pub sent : (state rows message frame : List ℕ) (was : ℕ) → T (acceptance (sendBytes state rows message frame .reply))
