@@ -1,16 +1,18 @@
 // What bytes say of themselves: settings and a slot, from a place on; the header of a frame, and whether a frame has it.
 mod header;
+mod reading;
 
 use code::Settings;
 pub use header::agrees;
 pub use header::header_bytes;
 use protocol::Answer;
 use protocol::Cause;
+pub use reading::slot_read_cause;
 ghost use mathlib.Core.Path.{_≡_};
 ghost use Prim.Native.Nat.{_+_, _*_, _≤_};
 ghost use lib.ListN.{length};
 ghost use Rattle.protocol.specs.Causes.{headerCause};
-ghost use Rattle.frames.specs.Fields.{settingsAt, slotAt, slotIn, slotReadCause};
+ghost use Rattle.frames.specs.Fields.{settingsAt, slotAt, slotIn};
 
 // W, T, B, N and L, from the place `start`.
 pub fn settings_at(bytes: &[u8], start: usize) -> Settings
@@ -65,20 +67,6 @@ pub fn header_cause(version: u16, s: Settings, frame: &[u8]) -> Answer
     }
     if !agrees(frame, head, 5, 10) {
         return Answer::Refused(Cause::OtherSettings);
-    }
-    Answer::Accepted
-}
-
-// The first cause for which the slot of these bytes is not read: there are too few, or they do not begin as a frame does.
-pub fn slot_read_cause(frame: &[u8]) -> Answer
-    ensures { λ r. ⌜ r ≡ slotReadCause (now (frame .entry)) ⌝ }
-{
-    if frame.len() < 14 {
-        return Answer::Refused(Cause::BadLength);
-    }
-    let head = header_bytes(1, settings_at(frame, 5), 0);
-    if !agrees(frame, head, 0, 5) {
-        return Answer::Refused(Cause::OtherMark);
     }
     Answer::Accepted
 }

@@ -1,6 +1,9 @@
 // The state that a caller keeps between calls: read, refused, and written.
+mod due;
+
 use buffers::write_at;
 use code::Settings;
+pub use due::due_read_cause;
 use ends::receiver_at;
 use ends::sender_at;
 use frames::settings_at;
@@ -15,7 +18,7 @@ ghost use lib.ListN.{length};
 ghost use Rattle.protocol.specs.Frame.{slotBytes};
 ghost use Rattle.protocol.specs.Causes.{agree};
 ghost use Rattle.state.specs.State.{markOf, stateBytes, senderBytes, receiverBytes, stateLen, saved};
-ghost use Rattle.state.specs.State.{senderIn, receiverIn, stateCause, eitherMark, dueReadCause};
+ghost use Rattle.state.specs.State.{senderIn, receiverIn, stateCause};
 
 // The length of a state, of either end.
 pub const STATE_LEN: usize = 20;
@@ -73,33 +76,6 @@ pub fn state_cause(end: u8, state: &[u8]) -> Answer
         return Answer::Refused(Cause::BadLength);
     }
     if !is_marked(end, state) {
-        return Answer::Refused(Cause::BadSettings);
-    }
-    Answer::Accepted
-}
-
-// Whether the bytes begin with the mark of either end.
-fn is_either(bytes: &[u8]) -> bool
-    requires { ⌜ 4 ≤ length (now bytes) ⌝ }
-    ensures { λ r. ⌜ r ≡ eitherMark (now (bytes .entry)) ⌝ }
-{
-    if is_marked(SENDER_END, bytes) {
-        return true;
-    }
-    is_marked(RECEIVER_END, bytes)
-}
-
-// The first cause for which the slot due is not read from these bytes: their length, or that they are no state.
-pub fn due_read_cause(state: &[u8]) -> Answer
-    ensures { λ r. ⌜ r ≡ dueReadCause (now (state .entry)) ⌝ }
-{
-    if state.len() != STATE_LEN {
-        return Answer::Refused(Cause::BadLength);
-    }
-    if !is_either(state) {
-        return Answer::Refused(Cause::BadSettings);
-    }
-    if !settings_at(state, 4).accepted() {
         return Answer::Refused(Cause::BadSettings);
     }
     Answer::Accepted

@@ -2,8 +2,8 @@
 use borrow.Author.Needs.{needs}
 use mathlib.Core.Path.{sym, _∙_}
 use Rattle.state.specs.State.{eitherMark}
-use Rattle.state.proofs.is_either.Statement.{statement}
-use Rattle.state.proofs.is_either.Tie as tie
+use Rattle.state.proofs.due.is_either.Statement.{statement}
+use Rattle.state.proofs.due.is_either.Tie as tie
 
 returns : tie.Need-returns
 unfolding eitherMark

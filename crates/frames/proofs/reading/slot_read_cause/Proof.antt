@@ -11,8 +11,8 @@ use Rattle.protocol.specs.Frame.{mark}
 use Rattle.protocol.specs.Causes.{agree}
 use Rattle.protocol.proofs.HeaderTests.{mark-test}
 use Rattle.frames.specs.Fields.{slotReadCause}
-use Rattle.frames.proofs.slot_read_cause.Statement.{statement}
-use Rattle.frames.proofs.slot_read_cause.Tie as tie
+use Rattle.frames.proofs.reading.slot_read_cause.Statement.{statement}
+use Rattle.frames.proofs.reading.slot_read_cause.Tie as tie
 
 returns : tie.Need-returns
 unfolding slotReadCause

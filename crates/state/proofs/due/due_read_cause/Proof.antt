@@ -10,8 +10,8 @@ use lib.ListN.{length}
 use Rattle.code.specs.Settings.{accepted}
 use Rattle.frames.specs.Fields.{settingsAt}
 use Rattle.state.specs.State.{stateLen, eitherMark, dueReadCause}
-use Rattle.state.proofs.due_read_cause.Statement.{statement}
-use Rattle.state.proofs.due_read_cause.Tie as tie
+use Rattle.state.proofs.due.due_read_cause.Statement.{statement}
+use Rattle.state.proofs.due.due_read_cause.Tie as tie
 
 returns : tie.Need-returns
 unfolding dueReadCause
