@@ -41,6 +41,17 @@ def declared(text, of_function):
             yield found[1]
 
 
+def imported(texts, crates):
+    """The names that some file imports from the kit."""
+    found = set()
+    for text in texts.values():
+        for module, inside in re.findall(r"use ([\w.']+)\.\{([^}]*)\}", text):
+            own = re.match(r"Rattle\.(\w+)\.", module)
+            if not (own and os.path.isdir(os.path.join(crates, own[1]))):
+                found |= set(re.split(r"[,\s]+", inside))
+    return found
+
+
 def main(argv):
     dry = "--dry" in argv
     root = next((a for a in argv if not a.startswith("-")), ".")
@@ -59,6 +70,8 @@ def main(argv):
             return plain
         return plain.replace("-", "_")
 
+    # what the kit exports under such a name keeps it
+    names -= imported(texts, crates)
     table = {n: turned(n) for n in names}
     # a lemma that would have its function's name
     for n, t in table.items():

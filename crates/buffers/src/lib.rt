@@ -1,4 +1,6 @@
 // The lent buffers: the length of each, whether they have it, and writing into them.
+#![tactic(auto)]
+
 mod exact;
 mod lengths;
 mod slices;

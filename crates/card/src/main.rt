@@ -1,6 +1,8 @@
 // Document 01's figures 9 to 12, run on both ends with one lane and then with three, document 02's example of a short window, and two lanes
 // whose parity differs: a line for each, in which every lent byte begins as 7. Of the three lanes, lane 1 has α times the messages of
 // lane 0, and lane 2 has them a slot later.
+#![tactic(auto)]
+
 ghost use Rattle.std.specs.Prelude.{◌≡◌, ◌≤◌, ◌<◌, length};
 
 use code::Settings;

@@ -1,4 +1,6 @@
 // The search for the first cause that refuses a call, by the call's table. It writes nothing.
+#![tactic(auto)]
+
 mod lookup;
 mod opening;
 mod slots;

@@ -1,4 +1,6 @@
 // Whether no word fits what arrived in some lane, and whether the fitting words differ in a symbol.
+#![tactic(auto)]
+
 ghost use Rattle.std.specs.Prelude.{not, ◌≡◌, ◌<◌, ◌≤◌, eqb, length, get_or};
 ghost use Rattle.galois.specs.Bounded.{any};
 ghost use Rattle.gathering.specs.Pairs.{pairs_of, Paired};

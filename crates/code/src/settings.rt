@@ -3,7 +3,7 @@ ghost use Rattle.std.specs.Prelude.{◌≡◌};
 ghost use Rattle.code.specs.Settings.{accepted, delay_of, k_of, n_of, d_of};
 
 // W, T, B, N and L, as set.
-#[derive(Drop)]
+#[derive(Clone, Copy)]
 pub struct Settings {
     pub window: u8,
     pub delay: u8,

@@ -1,4 +1,6 @@
 // One position of an elimination: its pivot is looked for, scaled to 1, and cleared from the other rows.
+#![tactic(auto)]
+
 ghost use Rattle.std.specs.Prelude.{◌≡◌, ◌≤◌, ◌<◌, eqb, length, get_or};
 ghost use Rattle.galois.specs.Byte.{quotient, Reciprocals};
 ghost use Rattle.galois.specs.Table.{table};

@@ -1,11 +1,13 @@
 // A call in buffers of which some bytes at the end are not lent: what it starts from, and the length that a cut leaves.
+#![tactic(auto)]
+
 ghost use Rattle.std.specs.Prelude.{◌≡◌};
 ghost use Rattle.cuts.specs.Cuts.{end_of};
 
 use code::Settings;
 
 // The state that a call starts from, a receiver's with its opening slot, and what is not lent of the rows and of the two things after them.
-#[derive(Drop)]
+#[derive(Clone, Copy)]
 pub struct Call {
     pub settings: Settings,
     pub opening: u32,

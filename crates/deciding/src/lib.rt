@@ -1,4 +1,6 @@
 // The receiver's decision on one message: for each source symbol one elimination, and one answer for all lanes.
+#![tactic(auto)]
+
 ghost use Rattle.std.specs.Prelude.{cond, ◌≡◌, ◌<◌, ltb, length};
 ghost use Rattle.protocol.specs.Lengths.{message_len};
 ghost use Rattle.protocol.specs.Verdict.{verdict, buffer_of};

@@ -1,4 +1,6 @@
 // The decision on one message, by the receiver's rows. The call takes any input at all, and a refused call changes nothing.
+#![tactic(auto)]
+
 ghost use Rattle.std.specs.Prelude.{◌≡◌};
 ghost use Rattle.decision.specs.Call.{decision_of};
 

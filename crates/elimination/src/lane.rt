@@ -1,5 +1,5 @@
 // What the words that fit say of one symbol.
-#[derive(Drop)]
+#[derive(Clone, Copy)]
 pub enum Symbol {
     // No word fits.
     Clash,

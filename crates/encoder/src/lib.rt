@@ -1,4 +1,6 @@
 // The systematic form: row i is the word whose first k symbols are the i-th unit.
+#![tactic(auto)]
+
 ghost use Rattle.std.specs.Prelude.{[], ◌≡◌, ◌+◌, ◌-◌, ◌≤◌, ◌<◌, get_or};
 ghost use Rattle.galois.specs.Byte.{◌⊕◌, ◌⊗◌};
 ghost use Rattle.galois.specs.Sum.{sum};

@@ -1,5 +1,7 @@
 // What both ends share in code: their states, made here alone, as protocol's specs/States.antt says; the number of a cause; and whether
 // a report was accepted.
+#![tactic(auto)]
+
 ghost use Rattle.std.specs.Prelude.{◌≡◌, ◌≤◌};
 ghost use Rattle.protocol.specs.Lengths.{last_slot};
 ghost use Rattle.protocol.specs.Causes.{number_of};

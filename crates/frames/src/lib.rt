@@ -1,4 +1,6 @@
 // What bytes say of themselves: settings and a slot, from a place on; the header of a frame, and whether a frame has it.
+#![tactic(auto)]
+
 mod header;
 mod reading;
 

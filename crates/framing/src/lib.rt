@@ -1,4 +1,6 @@
 // A frame written, and its message remembered in the sender's rows.
+#![tactic(auto)]
+
 mod frame;
 mod rows;
 

@@ -2,7 +2,7 @@
 use mathlib.Core.Path.{◌≡◌, refl, sym, ap, ap₂, ◌∙◌, subst, subst⁻¹}
 use Prim.Native.Nat.{ℕ, zero, suc, ◌+◌, ◌*◌, ◌/◌, ◌%◌, ◌^◌, ◌<◌}
 use native.Mathlib.Nat.{mod-lt, one-mul, zero-mul, mul-one, mul-zero, zero-lt-suc, le_step, lt-suc_self}
-use native.Mathlib.Numerals.{one_add}
+use native.Mathlib.Numerals.{one-add}
 use native.Mathlib.Omega.{arith}
 use lib.Arith.{bin_ind, digits_mod, lt-one}
 use lib.Bits.{bit_xor, differ, xor_step, xor_comm, xor_shr, xor_lt, xor_self, xor_zero_l, xor_zero_r, xor_shifted}
@@ -121,6 +121,6 @@ module _ (f g : ℕ → ℕ) (add-f : Additive f) (add-g : Additive g) where
       ap f (plus_split k x) ∙ add-f (x / 2 ^ k * 2 ^ k) (x % 2 ^ k)
       ∙ ap₂ ◌⊕◌
       (equal_at_bit k (powers k (lt-suc_self k)) (x / 2 ^ k)
-      (shr_lt 1 k (subst (λ (m : ℕ). x < 2 ^ m) (sym (one_add k)) h)))
+      (shr_lt 1 k (subst (λ (m : ℕ). x < 2 ^ m) (sym (one-add k)) h)))
       (additive_equal k (λ i l. powers i (le_step l)) (x % 2 ^ k) (mod-lt x (pow_pos k)))
       ∙ sym (ap g (plus_split k x) ∙ add-g (x / 2 ^ k * 2 ^ k) (x % 2 ^ k))

@@ -1,11 +1,13 @@
 // Sixteen vectors of lanes in eight pairs, each with zeros and with its sum: bytes put over the two vectors of a pair, and over their sum.
+#![tactic(auto)]
+
 ghost use Rattle.std.specs.Prelude.{◌≡◌, ◌+◌, ◌<◌, ◌≤◌, length};
 ghost use Rattle.gathering.specs.Pairs.{Wide, paired_up};
 
 use gf256::Gf256;
 
 // Where the bytes of a vector begin, and the mask that they are taken under: 255, or 0 for zeros.
-#[derive(Drop)]
+#[derive(Clone, Copy)]
 pub struct Source {
     pub start: usize,
     pub keep: u8,

@@ -1,4 +1,6 @@
 // The generator matrix.
+#![tactic(auto)]
+
 mod matrix;
 
 pub use matrix::generator;

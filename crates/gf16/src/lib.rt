@@ -1,4 +1,6 @@
 // The field of sixteen elements: a number 0 to 15 is a polynomial over two elements, modulo z^4 + z + 1.
+#![tactic(auto)]
+
 ghost use Rattle.std.specs.Prelude.{◌≡◌, ◌*◌, ◌/◌, ◌%◌, ◌<◌};
 ghost use Rattle.std.specs.Int.Bits.{bit_xor};
 ghost use Rattle.galois.specs.Reciprocal.{Listed};
@@ -9,11 +11,11 @@ ghost use Rattle.gf16.specs.Answer.{answered};
 const NARROW_RECIPROCALS: [u8; 16] = [0, 1, 9, 14, 13, 11, 7, 6, 15, 2, 12, 5, 10, 4, 3, 8];
 
 // A narrow number. An operation that is handed a number above 15 gives 0; such a number has no reciprocal.
-#[derive(Drop)]
+#[derive(Clone, Copy)]
 pub struct Gf16(pub u8);
 
 // The reciprocal of a narrow number.
-#[derive(Drop)]
+#[derive(Clone, Copy)]
 pub enum Reciprocal {
     // Of 0, and of a number above 15.
     None,

@@ -1,4 +1,6 @@
 // The field of 256 elements: a byte 16h + l means hα + l, with narrow h and l, and α × α = α + 8.
+#![tactic(auto)]
+
 mod tables;
 
 ghost use Rattle.std.specs.Prelude.{◌≡◌};
@@ -9,11 +11,11 @@ use gf16::Gf16;
 use tables::RECIPROCALS;
 
 // A byte.
-#[derive(Drop)]
+#[derive(Clone, Copy)]
 pub struct Gf256(pub u8);
 
 // The reciprocal of a byte.
-#[derive(Drop)]
+#[derive(Clone, Copy)]
 pub enum Reciprocal {
     // Of 0.
     None,

@@ -1,4 +1,6 @@
 // The halves of the coefficients in a column, two in a byte, and the bits that they use.
+#![tactic(auto)]
+
 ghost use Rattle.std.specs.Prelude.{◌≡◌, [], ℕ, ◌*◌, ◌/◌, ◌%◌, ◌<◌, ◌≤◌, get_or};
 ghost use Rattle.halves.specs.Halves.{half_of, Under, bits_of};
 

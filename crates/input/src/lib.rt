@@ -1,8 +1,10 @@
 // Reading a file to its end: one that is open, as standard input, or one that an argument names.
+#![tactic(auto)]
+
 ghost use Rattle.std.specs.Prelude.{◌≤◌, length};
 
 // How much was read, and whether a read failed, which is not the end.
-#[derive(Drop)]
+#[derive(Clone, Copy)]
 pub struct Input {
     pub len: usize,
     pub failed: bool,

@@ -7,7 +7,7 @@ use code::Settings;
 use frames::{agrees, header_bytes, slot_of};
 
 // What is wrong with some frame of a recording.
-#[derive(Drop)]
+#[derive(Clone, Copy)]
 pub(crate) struct Faults {
     pub(crate) mark: bool,
     pub(crate) settings: bool,

@@ -1,4 +1,6 @@
 // What elimination says of one symbol of all lanes at once.
+#![tactic(auto)]
+
 mod symbol;
 
 ghost use Rattle.std.specs.Prelude.{◌≡◌, ◌<◌, length};

@@ -1,4 +1,6 @@
 // The numbers of the static library's replies, the state saved where a call was accepted, and lengths for its settings.
+#![tactic(auto)]
+
 mod lengths;
 mod numbers;
 mod outcomes;

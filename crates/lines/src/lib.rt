@@ -1,5 +1,7 @@
 // The lines that a player prints, written over the start of a lent line; without room for it nothing changes. Document 01, "Playing a
 // recording".
+#![tactic(auto)]
+
 mod text;
 
 ghost use Rattle.std.specs.Prelude.{◌≡◌, ◌+◌, ◌*◌, leb};

@@ -1,4 +1,6 @@
 // What the benchmark times of the joiner, behind calls by numbers: it is no part of the library for terminals.
+#![tactic(auto)]
+
 ghost use Rattle.std.specs.Prelude.{◌≡◌, not, cond, eqb, length};
 ghost use Rattle.measured.specs.Timed.{joined_len, heard_slots};
 

@@ -1,4 +1,6 @@
 // Numbers and bytes in digits, written over a lent line from a place on; each writer says where its text ends.
+#![tactic(auto)]
+
 ghost use Rattle.std.specs.Prelude.{◌≡◌, ◌+◌, ◌*◌, ◌≤◌, ◌<◌, length};
 ghost use Rattle.numbers.specs.Digits.{glyph, decimal, hex, Puts};
 

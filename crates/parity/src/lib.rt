@@ -1,4 +1,6 @@
 // The parity symbols of a frame: weighted sums of the source symbols that the sender's rows hold.
+#![tactic(auto)]
+
 mod sources;
 
 ghost use Rattle.std.specs.Prelude.{◌≡◌, ◌*◌, T, length};

@@ -1,5 +1,7 @@
 // Random patterns of loss for all accepted T, B and N: what elimination says of one symbol of each.
 // reference/PATTERNS.md says what is drawn and printed.
+#![tactic(auto)]
+
 mod random;
 mod word;
 

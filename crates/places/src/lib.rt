@@ -1,4 +1,6 @@
 // Where the symbols of a codeword stand in the receiver's rows, and which of them are known.
+#![tactic(auto)]
+
 mod known;
 mod starts;
 

@@ -1,4 +1,6 @@
 // Plays the recording on standard input, buffer by buffer, or the pair of recordings that two arguments name, line by line.
+#![tactic(auto)]
+
 mod pair;
 
 ghost use Rattle.std.specs.Prelude.{◌≡◌, ◌+◌, ◌*◌, ◌≤◌, length};

@@ -1,4 +1,6 @@
 // Playing a recording: a lent buffer is filled with the lines of steps, one after another. Document 01, "Playing a recording".
+#![tactic(auto)]
+
 ghost use Rattle.std.specs.Prelude.{◌≡◌};
 ghost use Rattle.reporting.specs.Outcomes.{outcome};
 ghost use Rattle.player.specs.Filling.{filled_of};

@@ -1,4 +1,6 @@
 // How far a player is: what it keeps between two steps, and what a step tells on a lent line, a refusal or a report.
+#![tactic(auto)]
+
 ghost use Rattle.std.specs.Prelude.{◌≡◌, true, ◌+◌, ◌*◌, ◌≤◌, length};
 ghost use Rattle.protocol.specs.Calls.{message_due};
 ghost use Rattle.lines.specs.Text.{stop_line, line_of, written};
@@ -10,14 +12,14 @@ use protocol::{Cause, Receiver};
 use receiver::Reported;
 
 // What a player keeps between two steps: the receiver, and where in the recording the next frame starts.
-#[derive(Drop)]
+#[derive(Clone, Copy)]
 pub struct Player {
     pub receiver: Receiver,
     pub offset: usize,
 }
 
 // How far playing on came: the player as it is then, and how many bytes of the lent buffer are printed, from its first on.
-#[derive(Drop)]
+#[derive(Clone, Copy)]
 pub struct Progress {
     pub player: Player,
     pub len: usize,

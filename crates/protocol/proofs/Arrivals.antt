@@ -29,8 +29,8 @@ in_row : (s : Settings) (p v : ℕ) → p < n_of s → v < s.lanes → 1 + (p * 
 unfolding row_len body_len
 in_row s p v hp hv = omega (arith, mul-le-mul_right s.lanes hp, suc-mul p s.lanes)
 
-one_add : (q : ℕ) → 1 + q ≡ suc q
-one_add q = omega arith
+one-add : (q : ℕ) → 1 + q ≡ suc q
+one-add q = omega arith
 
 -- zeros are 0, and 0 is read past them
 zero_at : (m q : ℕ) → ◌≡◌ {A = ℕ} (get_or (replicate m 0) q 0) 0
@@ -51,10 +51,10 @@ below_due due t i p = (λ k. omega (arith, ltb→lt (t + p) _ k), λ h. lt→ltb
 -- the byte of lane v at position p, in a row of received zeros and in that of a frame
 early_byte : (s : Settings) (q : ℕ) → get_or (received_zeros s) (1 + q) 0 ≡ 0
 unfolding received_zeros
-early_byte s q = ap (λ (j : ℕ). get_or (1 ∷ replicate (body_len s) 0) j 0) (one_add q) ∙ zero_at (body_len s) q
+early_byte s q = ap (λ (j : ℕ). get_or (1 ∷ replicate (body_len s) 0) j 0) (one-add q) ∙ zero_at (body_len s) q
 
 heard_byte : (f : List ℕ) (q : ℕ) → get_or (1 ∷ drop 14 f) (1 + q) 0 ≡ get_or f (14 + q) 0
-heard_byte f q = ap (λ (j : ℕ). get_or (1 ∷ drop 14 f) j 0) (one_add q) ∙ get_or-drop 14 f q 0
+heard_byte f q = ap (λ (j : ℕ). get_or (1 ∷ drop 14 f) j 0) (one-add q) ∙ get_or-drop 14 f q 0
 
 -- ---- by what became of its slot
 

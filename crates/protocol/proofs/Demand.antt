@@ -32,9 +32,9 @@ use Rattle.protocol.proofs.ReceivedRows.{Begun, Reached, heard_since, left_by, o
 use Rattle.protocol.proofs.Arrivals.{known_if, known_came}
 use Rattle.protocol.proofs.Recovery.{Truthful, recovered, whole_message}
 
-not_true : (b : Bool) → T (not b) → b ≡ false
-not_true true t = absurd t
-not_true false t = refl
+not-true : (b : Bool) → T (not b) → b ≡ false
+not-true true t = absurd t
+not-true false t = refl
 
 -- the sends of an accepted opening, and reports from any slot d on, each accepted frame being the sender's own
 module _ (s : Settings) (ok : T (accepted s)) (calls : List Send) (bytes : (c : Send) → Memᴰ c calls → Bytes c.message)
@@ -72,7 +72,7 @@ module _ (s : Settings) (ok : T (accepted s)) (calls : List Send) (bytes : (c : 
   pub truthful : (rows : List ℕ) (due t : ℕ) → Reached s (row_before s) d told rows due → due ≤ t + delay_of s + 1
       → Truthful s rows due t messages (lost_since d (lost_at told))
   truthful rows due t c to = record {
-    heard_known = λ i v p hi hv hp now kept. known_if c t to i p v hi now (not_true (lost_position (lost_since d (lost_at told)) t i p) kept);
+    heard_known = λ i v p hi hv hp now kept. known_if c t to i p v hi now (not-true (lost_position (lost_since d (lost_at told)) t i p) kept);
     known_true = λ i v p hi hv hp known.
         came_true t i v p ((arrived s rows due t i v).byte p) hp hv ((known_came c t to i p v hi hp hv _).0 (known, refl)).1;
   }

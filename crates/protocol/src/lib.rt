@@ -1,11 +1,13 @@
 // The states of both ends, and what a call answers. Each call is a definition in specs/, the demands are statements about these
 // definitions, and proofs/ has their theorems.
+#![tactic(auto)]
+
 mod states;
 
 use code::Settings;
 
 // A slot's number.
-#[derive(Drop)]
+#[derive(Clone, Copy)]
 pub struct Slot(pub u32);
 
 impl Slot {
@@ -14,14 +16,14 @@ impl Slot {
 }
 
 // What the sender keeps: its settings, and the slot due.
-#[derive(Drop)]
+#[derive(Clone, Copy)]
 pub struct Sender {
     pub settings: Settings,
     pub due: u32,
 }
 
 // What the receiver keeps: its settings, the slot that it was opened at, and the slot due.
-#[derive(Drop)]
+#[derive(Clone, Copy)]
 pub struct Receiver {
     pub settings: Settings,
     pub opening: u32,
@@ -29,7 +31,7 @@ pub struct Receiver {
 }
 
 // Why a call says no, in the order of checking; `number_of` of specs/Causes.antt has the numbers.
-#[derive(Drop)]
+#[derive(Clone, Copy)]
 pub enum Cause {
     BadSettings,
     BadLength,
@@ -42,14 +44,14 @@ pub enum Cause {
 }
 
 // What an opening or a send answers; `answerNumber` of specs/Numbers.antt has the numbers.
-#[derive(Drop)]
+#[derive(Clone, Copy)]
 pub enum Answer {
     Accepted,
     Refused(Cause),
 }
 
 // What a report or a look-up answers; `replyNumber` of specs/Numbers.antt has the numbers.
-#[derive(Drop)]
+#[derive(Clone, Copy)]
 pub enum Reply {
     Refused(Cause),
     NoneYet,

@@ -10,7 +10,7 @@ use protocol::{Answer, Receiver};
 use ring::write_opened;
 
 // What an opening gives back.
-#[derive(Drop)]
+#[derive(Clone, Copy)]
 pub struct Opened {
     pub answer: Answer,
     pub receiver: Receiver,

@@ -10,7 +10,7 @@ use ends::next_receiver;
 use protocol::{Cause, Receiver, Reply};
 
 // What a report gives back.
-#[derive(Drop)]
+#[derive(Clone, Copy)]
 pub struct Reported {
     pub reply: Reply,
     pub receiver: Receiver,

@@ -1,17 +1,19 @@
 // A recording of frames, all of one length, back to back: what stands at an offset of it, and a reader that walks it without copying.
 // The functions over the reader are thin, since each is proved by a walk; next_frame has plain parameters, so its callers need no walk.
+#![tactic(auto)]
+
 ghost use Rattle.std.specs.Prelude.{◌≡◌};
 ghost use Rattle.recording.specs.Found.{found_at};
 
 // A reader walks a recording frame by frame, without copying it.
-#[derive(Drop)]
+#[derive(Clone, Copy)]
 pub struct Reader<'a> {
     pub recording: &'a [u8],
     pub offset: usize,
 }
 
 // What stands at an offset of a recording.
-#[derive(Drop)]
+#[derive(Clone, Copy)]
 pub enum Found {
     // A whole frame, by the places where it starts and where the next one would.
     Frame { start: usize, end: usize },

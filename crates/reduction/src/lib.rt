@@ -1,5 +1,7 @@
 // Elimination over the known positions of a systematic form: the known sources are pivots from the start, then each known parity
 // position takes one more. It is the same for every lane.
+#![tactic(auto)]
+
 ghost use Rattle.std.specs.Prelude.{◌≡◌, length};
 ghost use Rattle.galois.specs.Byte.{Reciprocals};
 ghost use Rattle.elimination.specs.Elimination.{reduced_from, left_from};

@@ -1,4 +1,6 @@
 // A step of a player at a frame: a refusal, or a report of the slot due, with its line over the start of a lent one.
+#![tactic(auto)]
+
 ghost use Rattle.std.specs.Prelude.{cond, ◌≡◌, ◌+◌, ◌*◌, ◌≤◌, length};
 ghost use Rattle.reporting.specs.Acts.{frame_act};
 ghost use Rattle.reporting.specs.Outcomes.{outcome, printed_on};

@@ -1,4 +1,6 @@
 // What an opening and a report write into the receiver's ring of rows.
+#![tactic(auto)]
+
 ghost use Rattle.std.specs.Prelude.{◌∷◌, ◌++◌, ◌≡◌, ◌+◌, ◌%◌, ◌≤◌, ◌<◌, T, length, take, drop, replicate};
 ghost use Rattle.code.specs.Settings.{accepted};
 ghost use Rattle.galois.specs.Table.{table};

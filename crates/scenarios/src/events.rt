@@ -2,7 +2,7 @@
 use crate::random;
 
 // Whether the frame is lost, the faults of a report before the true one, those of the true one, and how many losses are left over.
-#[derive(Drop)]
+#[derive(Clone, Copy)]
 pub(crate) struct Event {
     pub(crate) lost: bool,
     pub(crate) faults: usize,

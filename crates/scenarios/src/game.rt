@@ -9,7 +9,7 @@ use protocol::{Receiver, Sender};
 
 // The buffers, and how many bytes at the end of each are zeros behind what it is for; how many losses of a burst are left over, whether
 // rows are drawn behind the receiver's back, the settings and both ends.
-#[derive(Drop)]
+#[derive(Clone, Copy)]
 pub(crate) struct Game {
     pub(crate) sent: [u8; 32768],
     pub(crate) received: [u8; 32768],

@@ -1,4 +1,6 @@
 // Both ends played through many calls, a line for each; reference/SCENARIOS.md says what is drawn and printed.
+#![tactic(auto)]
+
 mod events;
 mod faults;
 mod game;
@@ -11,7 +13,7 @@ use code::Settings;
 use game::Game;
 
 // Both ends opened fresh at slot 0; rows that are lent with a history of their own; or a receiver that is opened late.
-#[derive(Drop)]
+#[derive(Clone, Copy)]
 pub(crate) enum Kind {
     Fresh,
     Lent,

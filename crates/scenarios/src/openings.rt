@@ -4,7 +4,7 @@ use code::Settings;
 use protocol::{Receiver, Sender};
 
 // The settings of an opening, a receiver's slot, and what is not lent of its rows.
-#[derive(Drop)]
+#[derive(Clone, Copy)]
 struct Opening {
     settings: Settings,
     slot: u32,

@@ -11,14 +11,14 @@ use framing::{remember, write_frame};
 use protocol::{Answer, Cause, Sender};
 
 // What an opening gives back.
-#[derive(Drop)]
+#[derive(Clone, Copy)]
 pub struct Opened {
     pub answer: Answer,
     pub sender: Sender,
 }
 
 // What a send gives back.
-#[derive(Drop)]
+#[derive(Clone, Copy)]
 pub struct Sent {
     pub answer: Answer,
     pub sender: Sender,

@@ -1,4 +1,6 @@
 // The sender: its opening, and a send, which turns a message into the frame of the slot due.
+#![tactic(auto)]
+
 mod calls;
 
 pub use calls::{Opened, Sent, open, send};

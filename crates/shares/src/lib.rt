@@ -1,4 +1,6 @@
 // The vectors that the pivots' rows are multiplied by, the L bytes at each pivot's position, gathered in pairs; and their weighted sums.
+#![tactic(auto)]
+
 ghost use Rattle.std.specs.Prelude.{◌≡◌, ◌<◌, T, length};
 ghost use Rattle.gathering.specs.Pairs.{pairs_of, Wide, Paired, gathered_of};
 ghost use Rattle.vectors.specs.Weighted.{weighted_of};

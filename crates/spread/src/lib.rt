@@ -1,4 +1,6 @@
 // The rows of the spread form: products over zero points, at all positions at once.
+#![tactic(auto)]
+
 ghost use Rattle.std.specs.Prelude.{◌≡◌, get_or};
 ghost use Rattle.galois.specs.Narrow.{◌⊞◌, ◌⊠◌};
 ghost use Rattle.galois.specs.Table.{table};

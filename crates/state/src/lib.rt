@@ -1,4 +1,6 @@
 // The state that a caller keeps between calls: read, refused, and written.
+#![tactic(auto)]
+
 mod due;
 
 ghost use Rattle.std.specs.Prelude.{◌≡◌, ◌≤◌, length};

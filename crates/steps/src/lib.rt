@@ -1,5 +1,7 @@
 // The steps of a player: each makes one report, and writes at most one line over the start of a lent one. Document 01, "Playing a
 // recording".
+#![tactic(auto)]
+
 ghost use Rattle.std.specs.Prelude.{◌≡◌, ◌+◌, ◌*◌, ◌≤◌, length};
 ghost use Rattle.reporting.specs.Outcomes.{outcome, printed_on};
 ghost use Rattle.steps.specs.Steps.{begin_of, act_of};

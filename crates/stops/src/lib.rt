@@ -1,4 +1,6 @@
 // Why a player says no: the tests of a recording before any line, and those of each frame. Document 01, "Playing a recording".
+#![tactic(auto)]
+
 mod frame;
 mod opening;
 
@@ -8,7 +10,7 @@ pub use opening::examine;
 use protocol::Cause;
 
 // How a recording starts.
-#[derive(Drop)]
+#[derive(Clone, Copy)]
 pub enum Start {
     // It is empty, and prints nothing.
     Empty,

@@ -1,4 +1,6 @@
 // One symbol of a message in all lanes: where it stands, one elimination, and one answer.
+#![tactic(auto)]
+
 ghost use Rattle.std.specs.Prelude.{◌<◌, length, ◌≡◌, ◌≢◌};
 ghost use Rattle.galois.specs.Byte.{Reciprocals};
 ghost use Rattle.code.specs.Settings.{k_of};

@@ -1,4 +1,6 @@
 // The one receiver that a terminal keeps: it is lent to each report, which moves it on.
+#![tactic(auto)]
+
 ghost use Rattle.std.specs.Prelude.{◌≡◌};
 ghost use Rattle.protocol.specs.TwoLists.{report_of};
 ghost use Rattle.terminal.specs.Given.{report_in};

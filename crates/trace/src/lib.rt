@@ -1,4 +1,6 @@
 // Calls of both ends in buffers that may be cut too short or too long, and the line that each call prints.
+#![tactic(auto)]
+
 mod lent;
 mod print;
 

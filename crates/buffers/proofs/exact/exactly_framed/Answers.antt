@@ -1,0 +1,16 @@
+-- The rows and the message decide, else the frame.
+use borrow.Author.Rules.{rules}
+use borrow.Author.Tests.{not-true, not-false}
+use mathlib.Core.Path.{sym, ap, ◌∙◌}
+use Prim.Native.Nat.{ℕ}
+use lib.Dec.{eqb}
+use Rattle.buffers.proofs.exact.exactly_framed.Goals as goal
+
+pub returns-then-not-exactly : goal.returns-then-not-exactly
+returns-then-not-exactly c =
+    rw (sym c.exactly.ensures ∙ not-true c.exactly.result c.if-not-exactly.true)
+
+pub returns : goal.returns
+returns c =
+    rw (sym c.exactly.ensures ∙ not-false c.exactly.result c.if-not-exactly.false)
+    (ap (λ (n : ℕ). eqb c.args.frame n) c.frame_len.ensures)

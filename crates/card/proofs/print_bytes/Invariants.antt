@@ -1,0 +1,14 @@
+-- The loop goes up to the end of the bytes.
+use borrow.Author.Rules.{rules}
+use native.Mathlib.Omega.{arith}
+use Prim.Native.Nat.{◌-◌, ◌≤◌}
+use lib.ListN.{length}
+use Rattle.card.proofs.print_bytes.Given as goal
+
+abbrev pub invariant-loop-q : goal.invariant-loop-q
+invariant-loop-q l =
+    0 ≤ l.q
+
+abbrev pub decreases-loop-q : goal.decreases-loop-q
+decreases-loop-q l =
+    length l.bytes - l.q

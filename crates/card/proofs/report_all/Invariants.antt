@@ -1,0 +1,15 @@
+-- The loop counts to six, and each frame lies inside the frames.
+use borrow.Author.Rules.{rules}
+use mathlib.Core.Path.{◌≡◌, refl}
+use native.Mathlib.Omega.{arith}
+use Prim.Native.Nat.{◌-◌, ◌≤◌, zero-le}
+use lib.ListN.{length}
+use Rattle.card.proofs.report_all.Given as goal
+
+abbrev pub invariant-loop-slot : goal.invariant-loop-slot
+invariant-loop-slot l =
+    (l.slot ≤ 6) × (length l.rows ≡ length l.initial.rows) × (length l.message ≡ length l.initial.message)
+
+abbrev pub decreases-loop-slot : goal.decreases-loop-slot
+decreases-loop-slot l =
+    6 - l.slot

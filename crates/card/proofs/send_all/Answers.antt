@@ -1,0 +1,19 @@
+-- The loop counts to six, and each frame lies inside the frames.
+use borrow.Author.Rules.{rules}
+use mathlib.Core.Path.{◌≡◌, refl}
+use native.Mathlib.Omega.{arith}
+use Prim.Native.Nat.{◌-◌, ◌≤◌, zero-le}
+use lib.ListN.{length}
+use Rattle.card.proofs.send_all.Goals as goal
+
+pub loop-slot-init : goal.loop-slot-init
+loop-slot-init c =
+    (zero-le, refl, refl)
+
+pub loop-slot-preserved : goal.loop-slot-preserved
+loop-slot-preserved c =
+    (omega arith, omega arith, omega arith)
+
+pub shape_of-frames : goal.shape_of-frames
+shape_of-frames c =
+    c.loop-slot.invariant.2

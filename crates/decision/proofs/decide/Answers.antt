@@ -1,0 +1,49 @@
+-- Each way out is one case of the decision.
+use borrow.Author.Tests.{not-true, not-false, eqb-true, eqb-false}
+use mathlib.Core.Path.{◌≡◌, sym, ap, ◌∙◌, subst⁻¹}
+use mathlib.Core.Logic.{⊎_elim}
+use native.Mathlib.Omega.{arith}
+use lib.Dec.{T}
+use lib.ListN.{length}
+use Rattle.code.specs.Settings.{accepted}
+use Rattle.protocol.specs.declared.Reply.{Reply}
+use Rattle.protocol.specs.Lengths.{message_len, receiver_len}
+use Rattle.protocol.specs.Verdict.{buffer_of}
+use Rattle.decision.proofs.CallOutcomes.{outcome, bad_settings, bad_rows, bad_message, taken}
+use Rattle.decision.proofs.decide.Goals as goal
+
+pub returns-then-not-accepted : goal.returns-then-not-accepted
+returns-then-not-accepted c =
+    bad_settings c.args.s c.args.rows.now c.args.due c.args.t c.args.message.now
+    (sym c.accepted.ensures ∙ not-true c.accepted.result c.if-not-accepted.true)
+
+pub returns-then-rows-receiver_len : goal.returns-then-rows-receiver_len
+returns-then-rows-receiver_len c =
+    let passed : T (accepted c.args.s) = subst⁻¹ T (sym c.accepted.ensures ∙ not-false c.accepted.result c.if-not-accepted.false) tt in
+    let ok = passed in
+    ⊎_elim
+    (λ w. bad_rows c.args.s c.args.rows.now c.args.due c.args.t c.args.message.now ok
+    (λ same. w.taken (same ∙ sym c.receiver_len.ensures)))
+    (λ w. bad_message c.args.s c.args.rows.now c.args.due c.args.t c.args.message.now ok (w.0.left ∙ c.receiver_len.ensures)
+    (λ same. eqb-false (length c.args.message.now) w.1.result (not-true _ w.2.taken) (same ∙ sym w.1.ensures)))
+    c.then-rows-receiver_len.branch
+
+pub decided-requires : goal.decided-requires
+decided-requires c =
+    let passed : T (accepted c.args.s) = subst⁻¹ T (sym c.accepted.ensures ∙ not-false c.accepted.result c.if-not-accepted.false) tt in
+    let full : length c.args.rows.now ≡ receiver_len c.args.s = c.if-rows-receiver_len.false ∙ c.receiver_len.ensures in
+    let fits : length c.args.message.now ≡ message_len c.args.s = eqb-true (length c.args.message.now) c.message_len.result (not-false _ c.if-message-message_len.false) ∙ c.message_len.ensures in
+    (record { settings = passed; rows_exact = full; slot_fits = omega arith }, omega arith, fits)
+
+pub shape_of-message : goal.shape_of-message
+shape_of-message c =
+    c.decided.auto.1.1.1.1.0
+
+pub returns : goal.returns
+returns c =
+    let passed : T (accepted c.args.s) = subst⁻¹ T (sym c.accepted.ensures ∙ not-false c.accepted.result c.if-not-accepted.false) tt in
+    let full : length c.args.rows.now ≡ receiver_len c.args.s = c.if-rows-receiver_len.false ∙ c.receiver_len.ensures in
+    let fits : length c.args.message.now ≡ message_len c.args.s = eqb-true (length c.args.message.now) c.message_len.result (not-false _ c.if-message-message_len.false) ∙ c.message_len.ensures in
+    ap (outcome c.decided.result) c.decided.ensures.message
+    ∙ ap (λ (r : Reply). outcome r (buffer_of c.args.s c.args.rows.now c.args.due c.args.t r)) c.decided.ensures.said
+    ∙ taken c.args.s c.args.rows.now c.args.due c.args.t c.args.message.now (passed) (full) (fits)

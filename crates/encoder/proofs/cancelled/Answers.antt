@@ -1,0 +1,60 @@
+-- The loop adds one multiple a turn: before m it has cancelled the source symbols i + 1 to m - 1.
+use borrow.Author.Rules.{rules}
+use mathlib.Core.Path.{◌≡◌, sym, ap, ◌∙◌}
+use mathlib.Core.List.{List, []}
+use native.Mathlib.Omega.{arith}
+use Prim.Native.Nat.{ℕ, suc, ◌+◌, ◌-◌, ◌≤◌}
+use lib.ListN.{length, get_or}
+use Rattle.galois.specs.Byte.{◌⊕◌, ◌⊗◌}
+use Rattle.galois.specs.Sum.{sum}
+use Rattle.galois.proofs.Xor.{plus_assoc, plus_zero}
+use Rattle.galois.specs.Table.{table}
+use Rattle.galois.proofs.ByIndex.{is_table, get_or-table, table_equal}
+use Rattle.encoder.proofs.cancelled.Goals as goal
+
+reached_more : (row : List ℕ) (done : List (List ℕ)) (i m p : ℕ) → i + 1 ≤ m
+    → reached row done i m p ⊕ get_or row m 0 ⊗ get_or (get_or done m []) p 0 ≡ reached row done i (m + 1) p
+unfolding sum
+reached_more row done i m p h =
+    let term : ℕ → ℕ = λ q. get_or row q 0 ⊗ get_or (get_or done q []) p 0 in
+    let last : i + 1 + (m - (i + 1)) ≡ m = omega arith in
+    let count : m + 1 - (i + 1) ≡ suc (m - (i + 1)) = omega arith in
+    rw count
+    (plus_assoc (get_or row p 0) (sum (m - (i + 1)) (λ e. term (i + 1 + e))) (term m)
+    ∙ ap (λ (x : ℕ). get_or row p 0 ⊕ (sum (m - (i + 1)) (λ e. term (i + 1 + e)) ⊕ x)) (ap term (sym last)))
+
+reached_none : (row : List ℕ) (done : List (List ℕ)) (i p : ℕ) → get_or row p 0 ≡ reached row done i (i + 1) p
+unfolding sum
+reached_none row done i p =
+    let none : i + 1 - (i + 1) ≡ 0 = omega arith in
+    rw none (sym (plus_zero (get_or row p 0)))
+
+abbrev reached : List ℕ → List (List ℕ) → ℕ → ℕ → ℕ → ℕ
+reached row done i m p = get_or row p 0 ⊕ sum (m - (i + 1)) (λ e. get_or row (i + 1 + e) 0 ⊗ get_or (get_or done (i + 1 + e) []) p 0)
+
+pub loop-m-init : goal.loop-m-init
+loop-m-init c =
+    let sixteen : length c.args.t1 ≡ 16 = search rules in (
+      omega arith,
+      omega arith,
+      is_table 16 (reached c.args.t1 c.args.done.now c.args.i (c.args.i + 1)) 0 c.args.t1 sixteen
+          (λ p h. reached_none c.args.t1 c.args.done.now c.args.i p),
+    )
+
+pub loop-m-preserved : goal.loop-m-preserved
+loop-m-preserved c =
+    let f : ℕ → ℕ → ℕ = reached c.args.t1 c.args.done.now c.args.i in (
+      omega arith,
+      omega arith,
+      c.plus_multiple-sum.ensures
+          ∙ table_equal 16 (λ p. get_or c.loop-m.out p 0 ⊕ get_or c.args.t1 c.loop-m.m 0 ⊗ get_or (get_or c.args.done.now c.loop-m.m []) p 0) (f (c.loop-m.m + 1))
+          (λ p h.
+          ap (λ (x : ℕ). x ⊕ get_or c.args.t1 c.loop-m.m 0 ⊗ get_or (get_or c.args.done.now c.loop-m.m []) p 0)
+          (ap (λ (l : List ℕ). get_or l p 0) c.loop-m.invariant.2 ∙ get_or-table 16 (f c.loop-m.m) p 0 h)
+          ∙ reached_more c.args.t1 c.args.done.now c.args.i c.loop-m.m p c.loop-m.invariant.0),
+    )
+
+pub returns : goal.returns
+returns c =
+    let all : c.loop-m.m ≡ c.args.end = omega arith in
+    c.loop-m.invariant.2 ∙ ap (λ (m : ℕ). table 16 (reached c.args.t1 c.args.done.now c.args.i m)) all

@@ -1,0 +1,21 @@
+-- The loop adds one multiple a turn: before m it has cancelled the source symbols i + 1 to m - 1.
+use borrow.Author.Rules.{rules}
+use mathlib.Core.Path.{◌≡◌, sym, ap, ◌∙◌}
+use mathlib.Core.List.{List, []}
+use native.Mathlib.Omega.{arith}
+use Prim.Native.Nat.{ℕ, suc, ◌+◌, ◌-◌, ◌≤◌}
+use lib.ListN.{length, get_or}
+use Rattle.galois.specs.Byte.{◌⊕◌, ◌⊗◌}
+use Rattle.galois.specs.Sum.{sum}
+use Rattle.galois.proofs.Xor.{plus_assoc, plus_zero}
+use Rattle.galois.specs.Table.{table}
+use Rattle.galois.proofs.ByIndex.{is_table, get_or-table, table_equal}
+use Rattle.encoder.proofs.cancelled.Given as goal
+
+abbrev pub invariant-loop-m : goal.invariant-loop-m
+invariant-loop-m l =
+    (l.i + 1 ≤ l.m) × (l.m ≤ l.end) × (l.out ≡ table 16 (reached l.row l.done l.i l.m))
+
+abbrev pub decreases-loop-m : goal.decreases-loop-m
+decreases-loop-m l =
+    l.end - l.m

@@ -1,0 +1,17 @@
+-- The loop fills the sums from the front.
+use mathlib.Core.Path.{◌≡◌, refl, ap, ◌∙◌}
+use native.Mathlib.Nat.{not-suc-le-zero}
+use native.Mathlib.Omega.{arith}
+use Prim.Native.Nat.{ℕ, ◌-◌, ◌<◌, ◌≤◌, zero-le}
+use lib.ListN.{length, get_or, length-set}
+use Rattle.galois.specs.Byte.{◌⊕◌, ◌⊗◌}
+use Rattle.galois.proofs.ByIndex.{is_table, filled_more}
+use Rattle.encoder.proofs.plus_multiple.Given as goal
+
+abbrev pub invariant-loop-j : goal.invariant-loop-j
+invariant-loop-j l =
+    (l.j ≤ 16) × (length l.out ≡ 16) × ((i : ℕ) → i < l.j → get_or l.out i 0 ≡ get_or l.row i 0 ⊕ l.number.0 ⊗ get_or l.other i 0)
+
+abbrev pub decreases-loop-j : goal.decreases-loop-j
+decreases-loop-j l =
+    16 - l.j

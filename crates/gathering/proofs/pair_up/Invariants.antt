@@ -1,0 +1,19 @@
+-- A turn puts one lane over the three vectors; what stands after it is as it came.
+use borrow.Author.Rules.{rules}
+use mathlib.Core.Path.{◌≡◌, refl, subst}
+use native.Mathlib.Omega.{arith}
+use Prim.Native.Nat.{ℕ, ◌-◌, ◌*◌, ◌≤◌, zero-le}
+use lib.ListN.{length, get_or}
+use Rattle.galois.specs.Byte.{◌⊕◌}
+use Rattle.gathering.specs.Pairs.{byte_of, paired_up}
+use Rattle.gathering.proofs.PairLaws.{Put, none_put, put_more, put_all}
+use Rattle.gathering.proofs.pair_up.Given as goal
+
+abbrev pub invariant-loop-v : goal.invariant-loop-v
+invariant-loop-v l =
+    (l.v ≤ l.lanes)
+    × Put l.initial.pairs (l.j * 2) l.v (byte_of l.bytes l.first) (byte_of l.bytes l.second) (λ v. byte_of l.bytes l.first l.v ⊕ byte_of l.bytes l.second l.v) l.pairs
+
+abbrev pub decreases-loop-v : goal.decreases-loop-v
+decreases-loop-v l =
+    l.lanes - l.v

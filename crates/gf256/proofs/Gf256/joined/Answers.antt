@@ -1,0 +1,13 @@
+-- `joined` fits a byte, since each half is below 16 once it is widened.
+use borrow.Author.Rules.{rules}
+use mathlib.Core.Path.{ap₂}
+use Prim.Native.Nat.{ℕ, ◌+◌, ◌*◌}
+use native.Mathlib.Omega.{arith}
+use Rattle.galois.specs.Byte.{byte, widen}
+use Rattle.galois.proofs.Extension.{widen_below}
+use Rattle.gf256.proofs.Gf256.joined.Goals as goal
+
+pub returns : goal.returns
+unfolding byte
+returns c =
+    ap₂ (λ (h l : ℕ). h * 16 + l) c.widened.ensures c.widened-2.ensures

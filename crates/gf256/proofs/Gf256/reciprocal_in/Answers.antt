@@ -1,0 +1,18 @@
+-- `reciprocal_in` is the entry of the table at the byte, and none where it has none.
+use borrow.Author.Rules.{rules}
+use mathlib.Core.Path.{◌≡◌, sym, ap, ◌∙◌}
+use native.Mathlib.Omega.{arith}
+use Rattle.galois.specs.Reciprocal.{Listed}
+use Rattle.galois.specs.Byte.{reciprocal}
+use Rattle.galois.proofs.ByteField.{bytes}
+use Rattle.gf256.proofs.Gf256.reciprocal_in.Goals as goal
+
+pub returns-then-x-eq0 : goal.returns-then-x-eq0
+returns-then-x-eq0 c =
+    let zero : c.args.self.0 ≡ 0 = omega arith in
+    sym (ap reciprocal zero ∙ bytes.none_of_zero)
+
+pub returns : goal.returns
+unfolding Listed
+returns c =
+    sym (c.requires c.args.self.0 (omega arith) (omega arith))

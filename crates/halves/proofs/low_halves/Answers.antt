@@ -1,0 +1,10 @@
+-- A byte divided by 1 is the byte.
+use borrow.Author.Rules.{rules}
+use mathlib.Core.Path.{ap, ◌∙◌}
+use Prim.Native.Nat.{ℕ, ◌%◌}
+use native.Mathlib.Nat.{div-one}
+use Rattle.halves.proofs.low_halves.Goals as goal
+
+pub returns : goal.returns
+returns c =
+    (λ i h. c.pack_halves.ensures.0 i h ∙ ap (λ (x : ℕ). x % 16) (div-one _), c.pack_halves.ensures.1)

@@ -1,0 +1,173 @@
+-- Each turn passes a frame, or two that stand for one slot and are alike.
+use borrow.Author.Rules.{rules}
+use borrow.Author.Tests.{not-true, not-false}
+use mathlib.Core.Path.{◌≡◌, sym, ap, ◌∙◌}
+use mathlib.Core.List.{List}
+use native.Mathlib.Omega.{arith}
+use Prim.Native.Nat.{ℕ, suc, ◌+◌, ◌-◌, ◌≤◌, ◌<◌, zero-le}
+use lib.ListN.{length}
+use Rattle.frames.specs.Fields.{slot_in}
+use Rattle.protocol.specs.Lengths.{frame_len}
+use Rattle.protocol.specs.Causes.{agree}
+use Rattle.aerials.specs.Pair.{frames_in, frame_of, slot_of}
+use Rattle.aerials.proofs.FrameLaws.{frames_few, frame_body, frame_length, header_inside}
+use Rattle.joiner.proofs.Overlaps.{Passed, none_passed, first_behind, second_behind, both_alike, none_unlike, one_unlike}
+use Rattle.joiner.proofs.overlap.unlike.Goals as goal
+
+alike_by : (m n : ℕ) (a b x y : List ℕ) → m ≡ n → a ≡ x → b ≡ y → agree m a b ≡ agree n x y
+alike_by m n a b x y size e f = rw (size, e, f)
+
+pub loop-i-init : goal.loop-i-init
+loop-i-init c =
+    (zero-le, zero-le, c.frames_in-m.ensures, c.frames_in-n.ensures, none_passed c.args.s c.args.first.now c.args.second.now)
+
+pub returns-then-n-j : goal.returns-then-n-j
+returns-then-n-j c =
+    sym
+    (none_unlike c.args.s c.args.first.now c.args.second.now
+    (λ x y hx hy. c.loop-i.invariant.4.of_second x y hx (omega (arith, c.if-n-j.true, c.loop-i.invariant.3))))
+
+pub frame_of-a-requires : goal.frame_of-a-requires
+frame_of-a-requires c =
+    let in-first : c.loop-i.i < frames_in c.args.s c.args.first.now = omega (arith, c.loop-i-test.true, c.loop-i.invariant.2) in
+    in-first
+
+pub frame_of-b-requires : goal.frame_of-b-requires
+frame_of-b-requires c =
+    let in-second : c.loop-i.j < frames_in c.args.s c.args.second.now = omega (arith, c.if-n-j.false, c.loop-i.invariant.3) in
+    in-second
+
+pub slot_of-x-requires : goal.slot_of-x-requires
+slot_of-x-requires c =
+    let in-first : c.loop-i.i < frames_in c.args.s c.args.first.now = omega (arith, c.loop-i-test.true, c.loop-i.invariant.2) in
+    header_inside c.args.s c.args.first.now _ (in-first) _ c.frame_of-a.ensures.bytes
+
+pub slot_of-y-requires : goal.slot_of-y-requires
+slot_of-y-requires c =
+    let in-second : c.loop-i.j < frames_in c.args.s c.args.second.now = omega (arith, c.if-n-j.false, c.loop-i.invariant.3) in
+    header_inside c.args.s c.args.second.now _ (in-second) _ c.frame_of-b.ensures.bytes
+
+pub overflow_add-i : goal.overflow_add-i
+overflow_add-i c =
+    let in-first : c.loop-i.i < frames_in c.args.s c.args.first.now = omega (arith, c.loop-i-test.true, c.loop-i.invariant.2) in
+    let few_first : frames_in c.args.s c.args.first.now < 18446744073709551616 = omega (arith, frames_few c.args.s c.args.first.now, c.well_formed.1.0.0) in
+    record { fits = omega (arith, in-first, few_first) }
+
+pub loop-i-smaller-then-x-y : goal.loop-i-smaller-then-x-y
+loop-i-smaller-then-x-y c =
+    let in-first : c.loop-i.i < frames_in c.args.s c.args.first.now = omega (arith, c.loop-i-test.true, c.loop-i.invariant.2) in
+    omega (arith, in-first, c.loop-i.invariant.2)
+
+pub loop-i-preserved-then-x-y : goal.loop-i-preserved-then-x-y
+unfolding slot_of
+loop-i-preserved-then-x-y c =
+    let in-first : c.loop-i.i < frames_in c.args.s c.args.first.now = omega (arith, c.loop-i-test.true, c.loop-i.invariant.2) in
+    let in-second : c.loop-i.j < frames_in c.args.s c.args.second.now = omega (arith, c.if-n-j.false, c.loop-i.invariant.3) in
+    let first_slot : c.slot_of-x.result ≡ slot_of c.args.s c.args.first.now c.loop-i.i = c.slot_of-x.ensures ∙ ap slot_in c.frame_of-a.ensures.bytes in
+    let second_slot : c.slot_of-y.result ≡ slot_of c.args.s c.args.second.now c.loop-i.j = c.slot_of-y.ensures ∙ ap slot_in c.frame_of-b.ensures.bytes in
+    let next : c.loop-i.i + 1 ≡ suc c.loop-i.i = omega arith in (
+      omega (arith, in-first, c.loop-i.invariant.2),
+      c.loop-i.invariant.1,
+      c.loop-i.invariant.2,
+      c.loop-i.invariant.3,
+      rw next
+          (first_behind c.args.s c.args.first.now c.args.second.now c.requires.1 c.requires.2 c.loop-i.i c.loop-i.j
+          c.loop-i.invariant.4 (in-first) (in-second) (omega (arith, first_slot, second_slot, c.if-x-y.true))),
+    )
+
+pub overflow_add-j : goal.overflow_add-j
+overflow_add-j c =
+    let in-second : c.loop-i.j < frames_in c.args.s c.args.second.now = omega (arith, c.if-n-j.false, c.loop-i.invariant.3) in
+    let few_second : frames_in c.args.s c.args.second.now < 18446744073709551616 = omega (arith, frames_few c.args.s c.args.second.now, c.well_formed.1.1.0.0) in
+    record { fits = omega (arith, in-second, few_second) }
+
+pub loop-i-smaller-then-y-x : goal.loop-i-smaller-then-y-x
+loop-i-smaller-then-y-x c =
+    let in-second : c.loop-i.j < frames_in c.args.s c.args.second.now = omega (arith, c.if-n-j.false, c.loop-i.invariant.3) in
+    omega (arith, in-second, c.loop-i.invariant.3)
+
+pub loop-i-preserved-then-y-x : goal.loop-i-preserved-then-y-x
+unfolding slot_of
+loop-i-preserved-then-y-x c =
+    let in-second : c.loop-i.j < frames_in c.args.s c.args.second.now = omega (arith, c.if-n-j.false, c.loop-i.invariant.3) in
+    let in-first : c.loop-i.i < frames_in c.args.s c.args.first.now = omega (arith, c.loop-i-test.true, c.loop-i.invariant.2) in
+    let first_slot : c.slot_of-x.result ≡ slot_of c.args.s c.args.first.now c.loop-i.i = c.slot_of-x.ensures ∙ ap slot_in c.frame_of-a.ensures.bytes in
+    let second_slot : c.slot_of-y.result ≡ slot_of c.args.s c.args.second.now c.loop-i.j = c.slot_of-y.ensures ∙ ap slot_in c.frame_of-b.ensures.bytes in
+    let next : c.loop-i.j + 1 ≡ suc c.loop-i.j = omega arith in (
+      c.loop-i.invariant.0,
+      omega (arith, in-second, c.loop-i.invariant.3),
+      c.loop-i.invariant.2,
+      c.loop-i.invariant.3,
+      rw next
+          (second_behind c.args.s c.args.first.now c.args.second.now c.requires.1 c.requires.2 c.loop-i.i c.loop-i.j
+          c.loop-i.invariant.4 (in-first) (in-second) (omega (arith, first_slot, second_slot, c.if-y-x.true))),
+    )
+
+pub alike-requires : goal.alike-requires
+alike-requires c =
+    let in-first : c.loop-i.i < frames_in c.args.s c.args.first.now = omega (arith, c.loop-i-test.true, c.loop-i.invariant.2) in
+    let in-second : c.loop-i.j < frames_in c.args.s c.args.second.now = omega (arith, c.if-n-j.false, c.loop-i.invariant.3) in
+    let first = ap length c.frame_of-a.ensures.bytes ∙ frame_length c.args.s c.args.first.now _ (in-first) in
+    let second = ap length c.frame_of-b.ensures.bytes ∙ frame_length c.args.s c.args.second.now _ (in-second) in
+    (omega (arith, first, frame_body c.args.s c.requires.0), first ∙ sym second)
+
+pub returns-then-not-alike : goal.returns-then-not-alike
+unfolding slot_of
+returns-then-not-alike c =
+    let in-first : c.loop-i.i < frames_in c.args.s c.args.first.now = omega (arith, c.loop-i-test.true, c.loop-i.invariant.2) in
+    let in-second : c.loop-i.j < frames_in c.args.s c.args.second.now = omega (arith, c.if-n-j.false, c.loop-i.invariant.3) in
+    let first_slot : c.slot_of-x.result ≡ slot_of c.args.s c.args.first.now c.loop-i.i = c.slot_of-x.ensures ∙ ap slot_in c.frame_of-a.ensures.bytes in
+    let second_slot : c.slot_of-y.result ≡ slot_of c.args.s c.args.second.now c.loop-i.j = c.slot_of-y.ensures ∙ ap slot_in c.frame_of-b.ensures.bytes in
+    let same_slot : slot_of c.args.s c.args.first.now c.loop-i.i
+    ≡ slot_of c.args.s c.args.second.now c.loop-i.j = omega (arith, first_slot, second_slot, c.if-x-y.false, c.if-y-x.false) in
+    let compared : c.alike.result ≡ agree (frame_len c.args.s) (frame_of c.args.s c.args.first.now c.loop-i.i) (frame_of c.args.s c.args.second.now c.loop-i.j) = let size = ap length c.frame_of-a.ensures.bytes ∙ frame_length c.args.s c.args.first.now _ (in-first) in
+    c.alike.ensures ∙ alike_by _ _ _ _ _ _ size c.frame_of-a.ensures.bytes c.frame_of-b.ensures.bytes in
+    sym
+    (one_unlike c.args.s c.args.first.now c.args.second.now c.loop-i.i c.loop-i.j (in-first) (in-second) (same_slot)
+    (sym (compared) ∙ not-true c.alike.result c.if-not-alike.true))
+
+pub overflow_add-i-else-y-x : goal.overflow_add-i-else-y-x
+overflow_add-i-else-y-x c =
+    let in-first : c.loop-i.i < frames_in c.args.s c.args.first.now = omega (arith, c.loop-i-test.true, c.loop-i.invariant.2) in
+    let few_first : frames_in c.args.s c.args.first.now < 18446744073709551616 = omega (arith, frames_few c.args.s c.args.first.now, c.well_formed.1.0.0) in
+    record { fits = omega (arith, in-first, few_first) }
+
+pub overflow_add-j-else-y-x : goal.overflow_add-j-else-y-x
+overflow_add-j-else-y-x c =
+    let in-second : c.loop-i.j < frames_in c.args.s c.args.second.now = omega (arith, c.if-n-j.false, c.loop-i.invariant.3) in
+    let few_second : frames_in c.args.s c.args.second.now < 18446744073709551616 = omega (arith, frames_few c.args.s c.args.second.now, c.well_formed.1.1.0.0) in
+    record { fits = omega (arith, in-second, few_second) }
+
+pub loop-i-smaller : goal.loop-i-smaller
+loop-i-smaller c =
+    let in-first : c.loop-i.i < frames_in c.args.s c.args.first.now = omega (arith, c.loop-i-test.true, c.loop-i.invariant.2) in
+    omega (arith, in-first, c.loop-i.invariant.2)
+
+pub loop-i-preserved : goal.loop-i-preserved
+unfolding slot_of
+loop-i-preserved c =
+    let compared : c.alike.result ≡ agree (frame_len c.args.s) (frame_of c.args.s c.args.first.now c.loop-i.i) (frame_of c.args.s c.args.second.now c.loop-i.j) = let size = ap length c.frame_of-a.ensures.bytes ∙ frame_length c.args.s c.args.first.now _ (in-first) in
+    c.alike.ensures ∙ alike_by _ _ _ _ _ _ size c.frame_of-a.ensures.bytes c.frame_of-b.ensures.bytes in
+    let in-first : c.loop-i.i < frames_in c.args.s c.args.first.now = omega (arith, c.loop-i-test.true, c.loop-i.invariant.2) in
+    let in-second : c.loop-i.j < frames_in c.args.s c.args.second.now = omega (arith, c.if-n-j.false, c.loop-i.invariant.3) in
+    let first_slot : c.slot_of-x.result ≡ slot_of c.args.s c.args.first.now c.loop-i.i = c.slot_of-x.ensures ∙ ap slot_in c.frame_of-a.ensures.bytes in
+    let second_slot : c.slot_of-y.result ≡ slot_of c.args.s c.args.second.now c.loop-i.j = c.slot_of-y.ensures ∙ ap slot_in c.frame_of-b.ensures.bytes in
+    let same_slot : slot_of c.args.s c.args.first.now c.loop-i.i
+    ≡ slot_of c.args.s c.args.second.now c.loop-i.j = omega (arith, first_slot, second_slot, c.if-x-y.false, c.if-y-x.false) in
+    let next-i : c.loop-i.i + 1 ≡ suc c.loop-i.i = omega arith in
+    let next-j : c.loop-i.j + 1 ≡ suc c.loop-i.j = omega arith in
+    let equal = sym (compared) ∙ not-false c.alike.result c.if-not-alike.false in (
+      omega (arith, in-first, c.loop-i.invariant.2),
+      omega (arith, in-second, c.loop-i.invariant.3),
+      c.loop-i.invariant.2,
+      c.loop-i.invariant.3,
+      rw (next-i, next-j)
+          (both_alike c.args.s c.args.first.now c.args.second.now c.requires.1 c.requires.2 c.loop-i.i c.loop-i.j
+          c.loop-i.invariant.4 (in-first) (in-second) (same_slot) (rw equal tt)),
+    )
+
+pub returns : goal.returns
+returns c =
+    sym
+    (none_unlike c.args.s c.args.first.now c.args.second.now
+    (λ x y hx hy. c.loop-i.invariant.4.of_first x y (omega (arith, c.loop-i-test.false, c.loop-i.invariant.2)) hy))

@@ -1,0 +1,158 @@
+-- Each way out is one case of the answer.
+use borrow.Author.Rules.{rules}
+use mathlib.Core.Path.{◌≡◌, sym, ap, ◌∙◌, subst⁻¹}
+use mathlib.Core.List.{List}
+use Prim.Native.Nat.{ℕ, ◌<◌}
+use native.Mathlib.Omega.{arith}
+use lib.ListN.{get_or}
+use Rattle.gathering.specs.Pairs.{pairs_of, Paired}
+use Rattle.gathering.proofs.PairLaws.{blank_wide}
+use Rattle.code.specs.Settings.{k_of}
+use Rattle.code.proofs.Shape.{Shape, shape}
+use Rattle.elimination.specs.Elimination.{Reduced}
+use Rattle.elimination.proofs.PivotSearch.{get_d_default}
+use Rattle.elimination.proofs.Terms.{both}
+use Rattle.shares.proofs.Shares.{all-paired, all-shared, Shared}
+use Rattle.lanes.specs.Lanes.{lanes_clash}
+use Rattle.lanes.proofs.Clashes.{clash_sums, own_differs}
+use Rattle.lanes.proofs.Said.{answers, said_clash, said_lost, said_whole}
+use Rattle.lanes.proofs.Combined.{sums_combined, own_lanes}
+use Rattle.lanes.proofs.answer.Goals as goal
+
+pub gather-requires : goal.gather-requires
+gather-requires c =
+    (c.requires.0, c.requires.2, blank_wide)
+
+pub clashing-requires : goal.clashing-requires
+clashing-requires c =
+    let start : tie.Start = c in
+    let pairs : List (List ℕ) = c.gather.new.pairs in
+    let shaped : Shape start.args.s = shape start.args.s start.pre.0.settings in
+    let paired : Paired (pairs_of (k_of start.args.s)) pairs = let a = start.args in
+    subst⁻¹ (Paired (pairs_of (k_of a.s))) c.gather.ensures (all-paired a.s a.roles.now a.places.now a.bytes.now shaped) in
+    let from = start in (from.pre.0, paired, from.pre.5)
+
+pub returns-then-clashing : goal.returns-then-clashing
+returns-then-clashing c =
+    let start : tie.Start = c in
+    let x : Reduced = both start.args.rows.now start.args.roles.now in
+    let pairs : List (List ℕ) = c.gather.new.pairs in
+    let shaped : Shape start.args.s = shape start.args.s start.pre.0.settings in
+    let small : (q : ℕ) → get_or start.args.bytes.now q 0 < 256 = λ q. (c.shared_slice_known-1.given q).fits in
+    let shared : let a = start.args in
+    Shared a.s a.roles.now a.places.now a.bytes.now pairs = let a = start.args in
+    subst⁻¹ (Shared a.s a.roles.now a.places.now a.bytes.now) c.gather.ensures
+    (all-shared a.s a.roles.now a.places.now a.bytes.now shaped small) in
+    let checked : let a = (start).args in
+    c.clashing.result ≡ lanes_clash a.s (x) a.flags.now a.places.now a.bytes.now = let a = (start).args in
+    c.clashing.ensures
+    ∙ clash_sums a.s (x) a.flags.now a.places.now a.bytes.now (pairs) (shaped) (shared) in
+    let a = (start).args in
+    said_clash a.s (x) a.flags.now a.places.now a.bytes.now a.i a.out.now
+    (sym (checked) ∙ c.if-clashing.true)
+
+pub bounds-roles-i : goal.bounds-roles-i
+bounds-roles-i c =
+    let shaped : Shape start.args.s = shape start.args.s start.pre.0.settings in
+    let few : start.args.i < 16 = let h = shaped in omega arith in
+    few
+
+pub overflow_cast-i : goal.overflow_cast-i
+overflow_cast-i c =
+    let shaped : Shape start.args.s = shape start.args.s start.pre.0.settings in
+    let few : start.args.i < 16 = let h = shaped in omega arith in
+    omega (arith, few)
+
+pub write_own-requires : goal.write_own-requires
+write_own-requires c =
+    let start : tie.Start = c in
+    let shaped : Shape start.args.s = shape start.args.s start.pre.0.settings in
+    let from = start in
+    let h = shaped in
+    (from.pre.0, omega arith, from.pre.3)
+
+pub returns-then-roles-i : goal.returns-then-roles-i
+returns-then-roles-i c =
+    let start : tie.Start = c in
+    let shaped : Shape start.args.s = shape start.args.s start.pre.0.settings in
+    let x : Reduced = both start.args.rows.now start.args.roles.now in
+    let small : (q : ℕ) → get_or start.args.bytes.now q 0 < 256 = λ q. (c.shared_slice_known-1.given q).fits in
+    let pairs : List (List ℕ) = c.gather.new.pairs in
+    let shared : let a = start.args in
+    Shared a.s a.roles.now a.places.now a.bytes.now pairs = let a = start.args in
+    subst⁻¹ (Shared a.s a.roles.now a.places.now a.bytes.now) c.gather.ensures
+    (all-shared a.s a.roles.now a.places.now a.bytes.now shaped small) in
+    let checked : let a = (start).args in
+    c.clashing.result ≡ lanes_clash a.s (x) a.flags.now a.places.now a.bytes.now = let a = (start).args in
+    c.clashing.ensures
+    ∙ clash_sums a.s (x) a.flags.now a.places.now a.bytes.now (pairs) (shaped) (shared) in
+    let from = start in
+    let a = from.args in
+    let h = shaped in
+    let inside : a.i < 16 = omega arith in
+    let role = get_d_default a.roles.now a.i 16 0 (omega arith) ∙ c.if-roles-i.true in
+    ap (answers 0)
+    (c.write_own.ensures
+    ∙ own_lanes a.s (x) a.places.now a.bytes.now a.i from.pre.4 role h from.pre.1 (small))
+    ∙ said_whole a.s (x) a.flags.now a.places.now a.bytes.now a.i a.out.now
+    (sym (checked) ∙ c.if-clashing.false) (own_differs a.s (x) a.i from.pre.4 role h from.pre.1)
+
+pub differing-requires : goal.differing-requires
+differing-requires c =
+    let shaped : Shape start.args.s = shape start.args.s start.pre.0.settings in
+    let few : start.args.i < 16 = let h = shaped in omega arith in
+    let start : tie.Start = c in
+    let h = shaped in
+    (few, omega arith, (start).requires.2)
+
+pub returns-then-differing : goal.returns-then-differing
+returns-then-differing c =
+    let start : tie.Start = c in
+    let x : Reduced = both start.args.rows.now start.args.roles.now in
+    let pairs : List (List ℕ) = c.gather.new.pairs in
+    let shaped : Shape start.args.s = shape start.args.s start.pre.0.settings in
+    let small : (q : ℕ) → get_or start.args.bytes.now q 0 < 256 = λ q. (c.shared_slice_known-1.given q).fits in
+    let shared : let a = start.args in
+    Shared a.s a.roles.now a.places.now a.bytes.now pairs = let a = start.args in
+    subst⁻¹ (Shared a.s a.roles.now a.places.now a.bytes.now) c.gather.ensures
+    (all-shared a.s a.roles.now a.places.now a.bytes.now shaped small) in
+    let checked : let a = (start).args in
+    c.clashing.result ≡ lanes_clash a.s (x) a.flags.now a.places.now a.bytes.now = let a = (start).args in
+    c.clashing.ensures
+    ∙ clash_sums a.s (x) a.flags.now a.places.now a.bytes.now (pairs) (shaped) (shared) in
+    let a = (start).args in
+    said_lost a.s (x) a.flags.now a.places.now a.bytes.now a.i a.out.now
+    (sym (checked) ∙ c.if-clashing.false) (sym c.differing.ensures ∙ c.if-differing.true)
+
+pub write_sum-requires : goal.write_sum-requires
+write_sum-requires c =
+    let start : tie.Start = c in
+    let shaped : Shape start.args.s = shape start.args.s start.pre.0.settings in
+    let pairs : List (List ℕ) = c.gather.new.pairs in
+    let paired : Paired (pairs_of (k_of start.args.s)) pairs = let a = start.args in
+    subst⁻¹ (Paired (pairs_of (k_of a.s))) c.gather.ensures (all-paired a.s a.roles.now a.places.now a.bytes.now shaped) in
+    let from = start in
+    let h = shaped in
+    (from.pre.0.settings, paired, omega arith, from.pre.3)
+
+pub returns : goal.returns
+returns c =
+    let start : tie.Start = c in
+    let x : Reduced = both start.args.rows.now start.args.roles.now in
+    let pairs : List (List ℕ) = c.gather.new.pairs in
+    let shaped : Shape start.args.s = shape start.args.s start.pre.0.settings in
+    let small : (q : ℕ) → get_or start.args.bytes.now q 0 < 256 = λ q. (c.shared_slice_known-1.given q).fits in
+    let shared : let a = start.args in
+    Shared a.s a.roles.now a.places.now a.bytes.now pairs = let a = start.args in
+    subst⁻¹ (Shared a.s a.roles.now a.places.now a.bytes.now) c.gather.ensures
+    (all-shared a.s a.roles.now a.places.now a.bytes.now shaped small) in
+    let checked : let a = (start).args in
+    c.clashing.result ≡ lanes_clash a.s (x) a.flags.now a.places.now a.bytes.now = let a = (start).args in
+    c.clashing.ensures
+    ∙ clash_sums a.s (x) a.flags.now a.places.now a.bytes.now (pairs) (shaped) (shared) in
+    let a = (start).args in
+    ap (answers 0)
+    (c.write_sum.ensures
+    ∙ sums_combined a.s (x) a.places.now a.bytes.now (pairs) (shaped) (shared) a.i)
+    ∙ said_whole a.s (x) a.flags.now a.places.now a.bytes.now a.i a.out.now
+    (sym (checked) ∙ c.if-clashing.false) (sym c.differing.ensures ∙ c.if-differing.false)

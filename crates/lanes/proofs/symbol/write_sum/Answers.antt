@@ -1,0 +1,48 @@
+-- The front of the weighted sum.
+use borrow.Author.Rules.{rules}
+use mathlib.Core.Path.{◌≡◌, sym, ap, ◌∙◌}
+use mathlib.Core.List.{List}
+use Prim.Native.Nat.{◌≤◌}
+use native.Mathlib.Omega.{arith}
+use lib.ListN.{length, get_or, take}
+use lib.Seq.{length-take-le, get_or-take}
+use Rattle.galois.proofs.ByIndex.{is_table}
+use Rattle.gathering.specs.Pairs.{pairs_of}
+use Rattle.vectors.specs.Weighted.{weighted_of}
+use Rattle.code.specs.Settings.{k_of}
+use Rattle.code.proofs.Shape.{shape}
+use Rattle.lanes.proofs.symbol.write_sum.Goals as goal
+
+pub sum_at-sum-requires : goal.sum_at-sum-requires
+sum_at-sum-requires c =
+    (c.requires.0, c.requires.1, c.requires.2)
+
+pub slice_bounds-sum-end : goal.slice_bounds-sum-end
+slice_bounds-sum-end c =
+    let inside : c.args.s.lanes ≤ length c.sum_at-sum.result = let long : length c.sum_at-sum.result ≡ 64 = search rules in
+    omega (arith, (shape c.args.s c.requires.0).lanes_few) in
+    inside
+
+pub slice_bounds-copy-end : goal.slice_bounds-copy-end
+slice_bounds-copy-end c =
+    let inside : c.args.s.lanes ≤ length c.sum_at-sum.result = let long : length c.sum_at-sum.result ≡ 64 = search rules in
+    omega (arith, (shape c.args.s c.requires.0).lanes_few) in
+    let front : length (take c.args.s.lanes c.sum_at-sum.result) ≡ c.args.s.lanes = length-take-le c.args.s.lanes c.sum_at-sum.result (inside) in
+    sym (front)
+
+pub copy-requires : goal.copy-requires
+copy-requires c =
+    let inside : c.args.s.lanes ≤ length c.sum_at-sum.result = let long : length c.sum_at-sum.result ≡ 64 = search rules in
+    omega (arith, (shape c.args.s c.requires.0).lanes_few) in
+    let front : length (take c.args.s.lanes c.sum_at-sum.result) ≡ c.args.s.lanes = length-take-le c.args.s.lanes c.sum_at-sum.result (inside) in
+    front ∙ sym c.requires.3
+
+pub returns : goal.returns
+returns c =
+    let inside : c.args.s.lanes ≤ length c.sum_at-sum.result = let long : length c.sum_at-sum.result ≡ 64 = search rules in
+    omega (arith, (shape c.args.s c.requires.0).lanes_few) in
+    let front : length (take c.args.s.lanes c.sum_at-sum.result) ≡ c.args.s.lanes = length-take-le c.args.s.lanes c.sum_at-sum.result (inside) in
+    c.copy.ensures
+    ∙ is_table c.args.s.lanes (λ v. get_or (weighted_of c.args.rows.now c.args.i c.args.pairs.now (pairs_of (k_of c.args.s))) v 0) 0
+    (take c.args.s.lanes c.sum_at-sum.result) (front)
+    (λ v lane. get_or-take c.args.s.lanes c.sum_at-sum.result v 0 lane ∙ ap (λ (l : List _). get_or l v 0) c.sum_at-sum.ensures)

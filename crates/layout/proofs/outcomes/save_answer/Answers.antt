@@ -1,0 +1,13 @@
+-- The state is written where the call was taken, and the number is the answer's.
+use borrow.Author.Rules.{rules}
+use mathlib.Core.Path.{ap, ◌∙◌}
+use mathlib.Core.Bool.{Bool}
+use Rattle.state.specs.State.{saved}
+use Rattle.layout.proofs.outcomes.save_answer.Goals as goal
+
+pub returns : goal.returns
+returns c =
+    (
+      c.answer_number.ensures,
+      c.save.ensures ∙ ap (λ (t : Bool). saved t c.args.bytes c.args.state.now) c.answer_taken.ensures,
+    )

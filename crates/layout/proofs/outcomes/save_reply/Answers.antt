@@ -1,0 +1,13 @@
+-- The state is written where the call was taken, and the number is the reply's.
+use borrow.Author.Rules.{rules}
+use mathlib.Core.Path.{ap, ◌∙◌}
+use mathlib.Core.Bool.{Bool}
+use Rattle.state.specs.State.{saved}
+use Rattle.layout.proofs.outcomes.save_reply.Goals as goal
+
+pub returns : goal.returns
+returns c =
+    (
+      c.reply_number.ensures,
+      c.save.ensures ∙ ap (λ (t : Bool). saved t c.args.bytes c.args.state.now) c.reply_taken.ensures,
+    )

@@ -1,0 +1,18 @@
+-- The loop fills the row from the front.
+use borrow.Author.Rules.{rules}
+use mathlib.Core.Path.{◌≡◌, refl}
+use native.Mathlib.Nat.{not-suc-le-zero}
+use native.Mathlib.Omega.{arith}
+use Prim.Native.Nat.{ℕ, ◌-◌, ◌<◌, ◌≤◌, zero-le}
+use lib.ListN.{length, get_or, length-set}
+use Rattle.galois.specs.Byte.{◌⊗◌}
+use Rattle.galois.proofs.ByIndex.{is_table, filled_more}
+use Rattle.multiples.proofs.rows.row_times.Given as goal
+
+abbrev pub invariant-loop-j : goal.invariant-loop-j
+invariant-loop-j l =
+    (l.j ≤ 16) × (length l.out ≡ 16) × ((i : ℕ) → i < l.j → get_or l.out i 0 ≡ l.c ⊗ get_or l.row i 0)
+
+abbrev pub decreases-loop-j : goal.decreases-loop-j
+decreases-loop-j l =
+    16 - l.j

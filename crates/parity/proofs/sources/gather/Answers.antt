@@ -1,0 +1,165 @@
+-- The loop puts two source symbols of every lane into their pair a turn; row is the one that holds source symbol 2j.
+use borrow.Author.Rules.{rules}
+use mathlib.Core.Path.{◌≡◌, refl, sym, ap, subst⁻¹, ◌∙◌}
+use native.Mathlib.Omega.{arith}
+use Prim.Native.Nat.{ℕ, ◌+◌, ◌-◌, ◌*◌, ◌%◌, ◌≤◌, ◌<◌}
+use lib.ListN.{length}
+use Rattle.gathering.specs.Pairs.{pairs_of, Wide, gathered_of}
+use Rattle.gathering.specs.declared.Source.{Source}
+use Rattle.gathering.proofs.Gathered.{gathered_more, gathered_wide}
+use Rattle.code.specs.Settings.{k_of, n_of}
+use Rattle.code.proofs.Shape.{Shape, shape}
+use Rattle.parity.specs.Sources.{source_in, row_of, source_of}
+use Rattle.parity.proofs.Places.{row_first, row_next, row_below}
+use Rattle.parity.proofs.Gathered.{source_held}
+use Rattle.parity.proofs.sources.gather.Goals as goal
+
+pub overflow_sub-ring : goal.overflow_sub-ring
+overflow_sub-ring c =
+    let shaped : Shape c.args.s = shape c.args.s c.requires.0 in
+    let h = shaped in omega (arith, c.symbols-ring.ensures)
+
+pub overflow_add-row : goal.overflow_add-row
+overflow_add-row c =
+    let shaped : Shape c.args.s = shape c.args.s c.requires.0 in
+    let h = shaped in omega (arith, c.symbols-ring.ensures)
+
+pub overflow_sub-row : goal.overflow_sub-row
+overflow_sub-row c =
+    let shaped : Shape c.args.s = shape c.args.s c.requires.0 in
+    let some_rows : (0 < n_of c.args.s - 1) × (c.args.p ≤ n_of c.args.s - 1) = let h = shaped in (omega arith, omega (arith, c.requires.3)) in
+    omega (arith, c.symbols-ring.ensures, some_rows)
+
+pub nonzero_rem-row : goal.nonzero_rem-row
+nonzero_rem-row c =
+    let shaped : Shape c.args.s = shape c.args.s c.requires.0 in
+    let some_rows : (0 < n_of c.args.s - 1) × (c.args.p ≤ n_of c.args.s - 1) = let h = shaped in (omega arith, omega (arith, c.requires.3)) in
+    omega (arith, c.symbols-ring.ensures, some_rows)
+
+pub loop-j-init : goal.loop-j-init
+unfolding gathered_of
+loop-j-init c =
+    (
+      omega arith,
+      ap (λ (n : ℕ). (c.args.due + (n - 1) - c.args.p) % (n - 1)) c.symbols-ring.ensures ∙ row_first c.args.s c.args.due c.args.p,
+      refl,
+    )
+
+pub overflow_mul-j : goal.overflow_mul-j
+overflow_mul-j c =
+    let shaped : Shape c.args.s = shape c.args.s c.requires.0 in
+    let few : c.loop-j.j ≤ 8 = let h = shaped in omega (arith, c.loop-j.invariant.0) in
+    omega (arith, few)
+
+pub next_row-next-requires : goal.next_row-next-requires
+next_row-next-requires c =
+    let row_within : at-loop.loop.row < n_of (start entered).args.s - 1 = let a = (start entered).args in
+    omega (arith, at-loop.loop.inv.1, row_below a.s a.due a.p (at-loop.loop.j * 2) (some_rows entered).0) in
+    let entered : tie.After-symbols invariant-loop decreases-loop = at-loop.before in
+    omega (arith, row_within, (entered).symbols.ensures)
+
+pub overflow_mul-j-in-loop-j : goal.overflow_mul-j-in-loop-j
+overflow_mul-j-in-loop-j c =
+    let taken : tie.Then1 invariant-loop decreases-loop = c in
+    omega (arith, few (at-loop (taken)))
+
+pub source-first-requires : goal.source-first-requires
+source-first-requires c =
+    let taken : tie.Then1 invariant-loop decreases-loop = c in
+    ((start (entered (taken))).pre.0, row_within (taken))
+
+pub overflow_mul-j-in-loop-j-2 : goal.overflow_mul-j-in-loop-j-2
+overflow_mul-j-in-loop-j-2 c =
+    let taken : tie.Then1 invariant-loop decreases-loop = c in
+    omega (arith, few (at-loop (taken)))
+
+pub overflow_add-j : goal.overflow_add-j
+overflow_add-j c =
+    let taken : tie.Then1 invariant-loop decreases-loop = c in
+    omega (arith, few (at-loop (taken)))
+
+pub source-second-requires : goal.source-second-requires
+source-second-requires c =
+    let taken : tie.Then1 invariant-loop decreases-loop = c in
+    let is_next : let a = (start (entered taken)).args in
+    c.next_row-next.result ≡ row_of a.s a.due a.p ((at-loop taken).loop.j * 2 + 1) = let a = (start (entered taken)).args in
+    let at = (at-loop taken).loop in
+    c.next_row-next.ensures
+    ∙ ap (λ (n : ℕ). (at.row + 1) % (n - 1)) (entered taken).symbols.ensures
+    ∙ row_next a.s a.due a.p (at.j * 2) at.row at.inv.1 in
+    let next_within : c.next_row-next.result < n_of (start (entered taken)).args.s - 1 = let a = (start (entered taken)).args in
+    omega (arith, is_next, row_below a.s a.due a.p ((at-loop taken).loop.j * 2 + 1) (some_rows (entered taken)).0) in
+    ((start (entered (taken))).pre.0, next_within)
+
+pub pair_up-requires : goal.pair_up-requires
+pair_up-requires c =
+    let taken : tie.Then1 invariant-loop decreases-loop = c in
+    let is_next : let a = (start (entered taken)).args in
+    c.next_row-next.result ≡ row_of a.s a.due a.p ((at-loop taken).loop.j * 2 + 1) = let a = (start (entered taken)).args in
+    let at = (at-loop taken).loop in
+    c.next_row-next.ensures
+    ∙ ap (λ (n : ℕ). (at.row + 1) % (n - 1)) (entered taken).symbols.ensures
+    ∙ row_next a.s a.due a.p (at.j * 2) at.row at.inv.1 in
+    let next_within : c.next_row-next.result < n_of (start (entered taken)).args.s - 1 = let a = (start (entered taken)).args in
+    omega (arith, is_next, row_below a.s a.due a.p ((at-loop taken).loop.j * 2 + 1) (some_rows (entered taken)).0) in
+    let at = taken in
+    let h = shaped (entered at) in (
+      omega (arith, (source at).1),
+      h.lanes_few,
+      held at c.source-first.result _ _ (row_within at) c.source-first.ensures,
+      held at c.source-second.result _ _ (next_within) c.source-second.ensures,
+      wide at,
+    )
+
+pub next_row-row-requires : goal.next_row-row-requires
+next_row-row-requires c =
+    let is_next : let a = (start (entered taken)).args in
+    c.next_row-next.result ≡ row_of a.s a.due a.p ((at-loop taken).loop.j * 2 + 1) = let a = (start (entered taken)).args in
+    let at = (at-loop taken).loop in
+    c.next_row-next.ensures
+    ∙ ap (λ (n : ℕ). (at.row + 1) % (n - 1)) (entered taken).symbols.ensures
+    ∙ row_next a.s a.due a.p (at.j * 2) at.row at.inv.1 in
+    let next_within : c.next_row-next.result < n_of (start (entered taken)).args.s - 1 = let a = (start (entered taken)).args in
+    omega (arith, is_next, row_below a.s a.due a.p ((at-loop taken).loop.j * 2 + 1) (some_rows (entered taken)).0) in
+    let taken : tie.Then1 invariant-loop decreases-loop = c in
+    omega (arith, next_within, (entered (taken)).symbols.ensures)
+
+pub overflow_add-j-in-loop-j : goal.overflow_add-j-in-loop-j
+overflow_add-j-in-loop-j c =
+    let taken : tie.Then1 invariant-loop decreases-loop = c in
+    omega (arith, few (at-loop (taken)))
+
+pub loop-j-smaller : goal.loop-j-smaller
+loop-j-smaller c =
+    let taken : tie.Then1 invariant-loop decreases-loop = c in
+    omega (arith, source (taken))
+
+pub loop-j-preserved : goal.loop-j-preserved
+loop-j-preserved c =
+    let taken : tie.Then1 invariant-loop decreases-loop = c in
+    let is_next : let a = (start (entered taken)).args in
+    c.next_row-next.result ≡ row_of a.s a.due a.p ((at-loop taken).loop.j * 2 + 1) = let a = (start (entered taken)).args in
+    let at = (at-loop taken).loop in
+    c.next_row-next.ensures
+    ∙ ap (λ (n : ℕ). (at.row + 1) % (n - 1)) (entered taken).symbols.ensures
+    ∙ row_next a.s a.due a.p (at.j * 2) at.row at.inv.1 in
+    let from = taken in
+    let at = (at-loop from).loop in
+    let a = (start (entered from)).args in
+    let turned : at.j * 2 + 1 + 1 ≡ (at.j + 1) * 2 = omega arith in (
+      (source from).1,
+      c.next_row-row.ensures
+          ∙ ap (λ (n : ℕ). (c.next_row-next.result + 1) % (n - 1)) (entered from).symbols.ensures
+          ∙ row_next a.s a.due a.p (at.j * 2 + 1) c.next_row-next.result (is_next)
+          ∙ ap (row_of a.s a.due a.p) turned,
+      c.pair_up.ensures
+          ∙ gathered_more a.rows.now a.s.lanes (source_of a.s a.due a.p) a.pairs.now at.j at.pairs c.source-first.result
+          c.source-second.result at.inv.2
+          (c.source-first.ensures ∙ ap (λ (row : ℕ). source_in a.s row (at.j * 2)) at.inv.1)
+          (c.source-second.ensures ∙ ap (λ (row : ℕ). source_in a.s row (at.j * 2 + 1)) (is_next)),
+    )
+
+pub returns : goal.returns
+returns c =
+    let all : c.loop-j.j ≡ pairs_of (k_of c.args.s) = omega (arith, c.sources.ensures) in
+    c.loop-j.invariant.2 ∙ ap (λ (m : ℕ). gathered_of c.args.rows.now c.args.s.lanes (source_of c.args.s c.args.due c.args.p) m c.args.pairs.now) all

@@ -1,0 +1,13 @@
+-- The loop counts to the burst.
+use borrow.Author.Rules.{rules}
+use native.Mathlib.Omega.{arith}
+use Prim.Native.Nat.{◌+◌, ◌-◌, ◌≤◌}
+use Rattle.patterns.proofs.each_scattered.Given as goal
+
+abbrev pub invariant-loop-scattered : goal.invariant-loop-scattered
+invariant-loop-scattered l =
+    l.scattered ≤ l.burst + 1
+
+abbrev pub decreases-loop-scattered : goal.decreases-loop-scattered
+decreases-loop-scattered l =
+    l.burst + 1 - l.scattered

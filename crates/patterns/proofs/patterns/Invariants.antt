@@ -1,0 +1,17 @@
+-- The loop counts to six.
+use borrow.Author.Rules.{rules}
+use borrow.Author.Tests.{not-false}
+use mathlib.Core.Path.{◌≡◌, sym, ◌∙◌, subst⁻¹}
+use native.Mathlib.Omega.{arith}
+use Prim.Native.Nat.{◌-◌, ◌≤◌}
+use lib.Dec.{T}
+use Rattle.code.specs.Settings.{accepted}
+use Rattle.patterns.proofs.patterns.Given as goal
+
+abbrev pub invariant-loop-j : goal.invariant-loop-j
+invariant-loop-j l =
+    (l.j ≤ 6) × T (accepted l.s) × (l.s.lanes ≡ 1)
+
+abbrev pub decreases-loop-j : goal.decreases-loop-j
+decreases-loop-j l =
+    6 - l.j

@@ -1,0 +1,12 @@
+-- There is room, so the line of `stop` is written.
+use borrow.Author.Rules.{rules}
+use mathlib.Core.Path.{refl}
+use native.Mathlib.Omega.{arith}
+use Rattle.protocol.specs.Causes.{number_of}
+use Rattle.lines.proofs.LentLines.{stop_parts}
+use Rattle.progress.proofs.stopped.Goals as goal
+
+pub returns : goal.returns
+returns c =
+    let wrote = stop_parts (number_of c.args.c) c.args.line.now _ _ c.write_stop-len.ensures (omega arith) in
+    (refl, (wrote.0, (refl, wrote.1)))

@@ -1,0 +1,67 @@
+-- A cause that is found refuses the frame, and else the report moves on by its row.
+use borrow.Author.Rules.{rules}
+use mathlib.Core.Path.{◌≡◌, refl, sym, ap, ◌∙◌}
+use mathlib.Core.List.{List, ◌∷◌}
+use native.Mathlib.Omega.{arith}
+use Prim.Native.Nat.{ℕ}
+use lib.ListN.{length, drop, length-drop}
+use Rattle.code.specs.declared.settings.Settings.{Settings}
+use Rattle.protocol.specs.Calls.{told_by, moved_on}
+use Rattle.protocol.specs.declared.Answer.TheVariants as answer
+use Rattle.protocol.specs.Causes.{frame_cause}
+use Rattle.protocol.specs.Lengths.{frame_len, row_len}
+use Rattle.protocol.proofs.ReportCauses.{FrameOpen, frame_open}
+use Rattle.protocol.proofs.ReportSteps.{heard_stays, heard_moves}
+use Rattle.ring.proofs.RowEnds.{kept}
+use Rattle.receiver.proofs.frame_report.heard.Goals as goal
+
+row_fits : (s : Settings) (frame : List ℕ) → length frame ≡ frame_len s → length (1 ∷ drop 14 frame) ≡ row_len s
+unfolding frame_len row_len
+row_fits s frame e = omega (arith, length-drop 14 frame)
+
+pub shape_of-rows-in-Refused : goal.shape_of-rows-in-Refused
+shape_of-rows-in-Refused c =
+    refl
+
+pub shape_of-message-in-Refused : goal.shape_of-message-in-Refused
+shape_of-message-in-Refused c =
+    refl
+
+pub returns-in-Refused : goal.returns-in-Refused
+returns-in-Refused c =
+    ap (λ r. record { reply = r.reply; receiver = r.receiver; rows = c.args.rows.now; message = c.args.message.now }) c.refused.ensures
+    ∙ sym (heard_stays c.args.x c.args.rows.now c.args.frame.now c.args.message.now _
+    (sym c.frame_cause-found.ensures ∙ c.in-Refused.is))
+
+pub record_heard-requires : goal.record_heard-requires
+record_heard-requires c =
+    let uncaused : frame_cause c.args.x c.args.rows.now c.args.frame.now c.args.message.now ≡ answer.Accepted = sym c.frame_cause-found.ensures ∙ c.in_default.is in
+    let clear : FrameOpen c.args.x c.args.rows.now c.args.message.now 1 c.args.frame.now = frame_open c.args.x c.args.rows.now c.args.message.now 1 c.args.frame.now (uncaused) in
+    let f = clear in (f.settings, f.rows_exact, f.frame_exact)
+
+pub moved_on-requires : goal.moved_on-requires
+moved_on-requires c =
+    let uncaused : frame_cause c.args.x c.args.rows.now c.args.frame.now c.args.message.now ≡ answer.Accepted = sym c.frame_cause-found.ensures ∙ c.in_default.is in
+    let clear : FrameOpen c.args.x c.args.rows.now c.args.message.now 1 c.args.frame.now = frame_open c.args.x c.args.rows.now c.args.message.now 1 c.args.frame.now (uncaused) in
+    let f = clear in (
+      f.settings,
+      f.in_time_lem,
+      ap length c.record_heard.ensures
+          ∙ kept c.args.x.settings c.args.x.due c.args.rows.now (1 ∷ drop 14 c.args.frame.now) f.rows_exact (row_fits c.args.x.settings c.args.frame.now f.frame_exact),
+      f.message_exact,
+    )
+
+pub shape_of-rows : goal.shape_of-rows
+shape_of-rows c =
+    c.record_heard.auto.0
+
+pub shape_of-message : goal.shape_of-message
+shape_of-message c =
+    c.moved_on.auto.1.1.0
+
+pub returns : goal.returns
+unfolding moved_on
+returns c =
+    let uncaused : frame_cause c.args.x c.args.rows.now c.args.frame.now c.args.message.now ≡ answer.Accepted = sym c.frame_cause-found.ensures ∙ c.in_default.is in
+    c.moved_on.ensures ∙ ap (told_by c.args.x) c.record_heard.ensures
+    ∙ sym (heard_moves c.args.x c.args.rows.now c.args.frame.now c.args.message.now (uncaused))

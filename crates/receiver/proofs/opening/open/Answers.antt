@@ -1,0 +1,34 @@
+-- A cause that is found refuses the opening, and else the rows are those of the slots before it.
+use borrow.Author.Rules.{rules}
+use mathlib.Core.Path.{◌≡◌, sym, ap₂, ◌∙◌}
+use native.Mathlib.Omega.{arith}
+use Prim.Native.Nat.{ℕ}
+use Rattle.galois.specs.Table.{table}
+use Rattle.protocol.specs.declared.Answer.TheVariants as answer
+use Rattle.protocol.specs.Causes.{open_receiver_cause}
+use Rattle.protocol.specs.Lengths.{row_len}
+use Rattle.protocol.proofs.CauseTables.{receiver_open}
+use Rattle.ring.specs.Bytes.{opened_byte}
+use Rattle.ring.proofs.OpenedRows.{opened_rows}
+use Rattle.receiver.proofs.Outcomes.{opening, unopened, opened}
+use Rattle.receiver.proofs.opening.open.Goals as goal
+
+pub returns-in-Refused : goal.returns-in-Refused
+returns-in-Refused c =
+    unopened c.args.s c.args.slot c.args.rows.now _ (sym c.open_receiver_cause-found.ensures ∙ c.in-Refused.is)
+
+pub write_opened-requires : goal.write_opened-requires
+unfolding row_len
+write_opened-requires c =
+    omega (arith, c.row_len.ensures)
+
+pub returns : goal.returns
+returns c =
+    let uncaused : open_receiver_cause c.args.s c.args.slot c.args.rows.now ≡ answer.Accepted = sym c.open_receiver_cause-found.ensures ∙ c.in_default.is in
+    ap₂ opening
+    (c.write_opened.ensures
+    ∙ ap₂ (λ (n m : ℕ). table n (opened_byte m c.args.slot))
+    (receiver_open c.args.s c.args.slot c.args.rows.now (uncaused)).exact c.row_len.ensures
+    ∙ opened_rows c.args.s c.args.slot)
+    c.opened_receiver.ensures
+    ∙ opened c.args.s c.args.slot c.args.rows.now (uncaused)

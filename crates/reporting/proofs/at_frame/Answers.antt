@@ -1,0 +1,54 @@
+-- Each way out is one case of a step at a frame.
+use borrow.Author.Rules.{rules}
+use mathlib.Core.Path.{◌≡◌, sym, ap, ap₂, ◌∙◌}
+use mathlib.Core.List.{List}
+use native.Mathlib.Omega.{arith}
+use Prim.Native.Nat.{ℕ, ◌+◌, ◌*◌, ◌≤◌}
+use lib.Dec.{leb}
+use lib.ListN.{length}
+use Rattle.protocol.specs.Calls.{Reported}
+use Rattle.reporting.specs.Acts.{report_act}
+use Rattle.reporting.specs.Outcomes.{printed_on}
+use Rattle.reporting.proofs.FrameOutcomes.{frame_stops, frame_reports, stop_line_lem, report_line}
+use Rattle.reporting.proofs.at_frame.Goals as goal
+
+fits_kept : (before after line : List ℕ) → length after ≡ length before → 18 + 2 * length before ≤ length line → 18 + 2 * length after ≤ length line
+fits_kept before after line same fits = omega arith
+
+pub shape_of-line-in-Refused : goal.shape_of-line-in-Refused
+shape_of-line-in-Refused c =
+    c.stopped.auto.1.1.0
+
+pub returns-in-Refused : goal.returns-in-Refused
+returns-in-Refused c =
+    stop_line_lem c.args.line.now _ _ _ _ c.args.p c.args.rows.now c.args.message.now c.in-Refused.c
+    c.stopped.ensures.0 c.stopped.ensures.1.0 c.stopped.ensures.1.1.0 c.stopped.ensures.1.1.1
+    ∙ ap (printed_on c.args.line.now)
+    (frame_stops c.args.p c.args.frame.now c.args.end c.args.rows.now c.args.message.now c.in-Refused.c
+    (sym c.stop_of-stop.ensures ∙ c.in-Refused.is))
+
+pub told-requires : goal.told-requires
+told-requires c =
+    fits_kept c.args.message.now c.report_kept-r.new.message c.args.line.now c.report_kept-r.auto.1.1.1.1.0 c.requires.1
+
+pub shape_of-rows : goal.shape_of-rows
+shape_of-rows c =
+    c.report_kept-r.auto.1.0
+
+pub shape_of-message : goal.shape_of-message
+shape_of-message c =
+    c.report_kept-r.auto.1.1.1.1.0
+
+pub shape_of-line : goal.shape_of-line
+shape_of-line c =
+    c.told.auto.1.1.1.1.0
+
+pub returns : goal.returns
+returns c =
+    report_line c.args.line.now _ _ _ _ c.args.p.receiver c.offset_after.result _
+    c.told.ensures.0 c.told.ensures.1.0 c.told.ensures.1.1.0 c.told.ensures.1.1.1
+    ∙ ap₂ (λ (offset : ℕ) (r : Reported). printed_on c.args.line.now (report_act c.args.p.receiver offset r)) c.offset_after.ensures c.report_kept-r.ensures
+    ∙ ap (printed_on c.args.line.now)
+    (frame_reports c.args.p c.args.frame.now c.args.end c.args.rows.now c.args.message.now
+    (sym c.stop_of-stop.ensures ∙ c.in_default.is)
+    _ (ap (λ (n : ℕ). leb n c.args.p.receiver.due) c.slot_of.ensures))

@@ -1,0 +1,15 @@
+-- The loop counts to twelve.
+use Rattle.std.proofs.Common.{◌≡◌, ◌-◌, ◌≤◌, length, refl, zero-le, arith, rules}
+use Rattle.scenarios.proofs.openings.of_sender.Goals as goal
+
+pub loop-r-init : goal.loop-r-init
+loop-r-init c =
+    (zero-le, refl)
+
+pub loop-r-preserved : goal.loop-r-preserved
+loop-r-preserved c =
+    (omega arith, omega arith)
+
+pub shape_of-rows : goal.shape_of-rows
+shape_of-rows c =
+    c.loop-r.invariant.1

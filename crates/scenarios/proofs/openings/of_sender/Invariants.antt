@@ -1,0 +1,11 @@
+-- The loop counts to twelve.
+use Rattle.std.proofs.Common.{◌≡◌, ◌-◌, ◌≤◌, length, refl, zero-le, arith, rules}
+use Rattle.scenarios.proofs.openings.of_sender.Given as goal
+
+abbrev pub invariant-loop-r : goal.invariant-loop-r
+invariant-loop-r l =
+    (l.r ≤ 12) × (length l.rows ≡ length l.initial.rows)
+
+abbrev pub decreases-loop-r : goal.decreases-loop-r
+decreases-loop-r l =
+    12 - l.r

@@ -1,0 +1,11 @@
+-- The loop counts the slots.
+use Rattle.std.proofs.Common.{◌-◌, ◌≤◌, zero-le, arith, rules}
+use Rattle.scenarios.proofs.rounds.Given as goal
+
+abbrev pub invariant-loop-i : goal.invariant-loop-i
+invariant-loop-i l =
+    l.i ≤ l.count
+
+abbrev pub decreases-loop-i : goal.decreases-loop-i
+decreases-loop-i l =
+    l.count - l.i

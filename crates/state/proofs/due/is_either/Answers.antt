@@ -1,0 +1,15 @@
+-- One mark, or else the other.
+use borrow.Author.Rules.{rules}
+use mathlib.Core.Path.{sym, ◌∙◌}
+use Rattle.state.specs.State.{either_mark}
+use Rattle.state.proofs.due.is_either.Goals as goal
+
+pub returns-then-is_marked : goal.returns-then-is_marked
+unfolding either_mark
+returns-then-is_marked c =
+    rw (sym c.is_marked.ensures, c.if-is_marked.true)
+
+pub returns : goal.returns
+unfolding either_mark
+returns c =
+    rw (sym c.is_marked.ensures, c.if-is_marked.false) c.is_marked-2.ensures

@@ -1,0 +1,93 @@
+-- Each way out is one case of what stands at the player's offset.
+use borrow.Author.Rules.{rules}
+use mathlib.Core.Path.{◌≡◌, sym, ap, ◌∙◌}
+use native.Mathlib.Omega.{arith}
+use Prim.Native.Nat.{ℕ, ◌+◌, ◌-◌, ◌≤◌, ◌<◌}
+use lib.ListN.{length, drop, length-take, length-drop}
+use Rattle.protocol.specs.Lengths.{frame_len}
+use Rattle.protocol.specs.declared.Cause.TheVariants.{BadLength}
+use Rattle.recording.specs.Found.{found_at}
+use Rattle.recording.proofs.FoundLaws.{frame_says}
+use Rattle.reporting.specs.Outcomes.{printed_on}
+use Rattle.reporting.proofs.FrameOutcomes.{stop_line_lem}
+use Rattle.steps.proofs.StepOutcomes.{ends, parts, stands, end_line}
+use Rattle.steps.proofs.step.Goals as goal
+
+pub stopped-requires : goal.stopped-requires
+stopped-requires c =
+    omega (arith, c.requires)
+
+pub slice_bounds-at_frame-start : goal.slice_bounds-at_frame-start
+slice_bounds-at_frame-start c =
+    let first : ℕ = c.in-Frame.start in
+    let past : ℕ = c.in-Frame.end in
+    let found : c.next_frame.result ≡ found_at c.args.recording.now c.args.p.offset (frame_len c.args.p.receiver.settings) = c.next_frame.ensures ∙ ap (found_at c.args.recording.now c.args.p.offset) c.frame_len.ensures in
+    let said : let size = frame_len c.args.p.receiver.settings in
+    (first ≡ c.args.p.offset) × (past ≡ c.args.p.offset + size) × (c.args.p.offset + size ≤ length c.args.recording.now) × (0 < size) = frame_says c.args.recording.now c.args.p.offset (frame_len c.args.p.receiver.settings) first past
+    (sym (found) ∙ c.in-Frame.is) in
+    omega (arith, said)
+
+pub slice_bounds-at_frame-end : goal.slice_bounds-at_frame-end
+slice_bounds-at_frame-end c =
+    let first : ℕ = c.in-Frame.start in
+    let past : ℕ = c.in-Frame.end in
+    let found : c.next_frame.result ≡ found_at c.args.recording.now c.args.p.offset (frame_len c.args.p.receiver.settings) = c.next_frame.ensures ∙ ap (found_at c.args.recording.now c.args.p.offset) c.frame_len.ensures in
+    let said : let size = frame_len c.args.p.receiver.settings in
+    (first ≡ c.args.p.offset) × (past ≡ c.args.p.offset + size) × (c.args.p.offset + size ≤ length c.args.recording.now) × (0 < size) = frame_says c.args.recording.now c.args.p.offset (frame_len c.args.p.receiver.settings) first past
+    (sym (found) ∙ c.in-Frame.is) in
+    omega (arith, said)
+
+pub at_frame-requires : goal.at_frame-requires
+unfolding frame_len
+at_frame-requires c =
+    let found : c.next_frame.result ≡ found_at c.args.recording.now c.args.p.offset (frame_len c.args.p.receiver.settings) = c.next_frame.ensures ∙ ap (found_at c.args.recording.now c.args.p.offset) c.frame_len.ensures in
+    let said : let size = frame_len c.args.p.receiver.settings in
+    (first ≡ c.args.p.offset) × (past ≡ c.args.p.offset + size) × (c.args.p.offset + size ≤ length c.args.recording.now) × (0 < size) = frame_says c.args.recording.now c.args.p.offset (frame_len c.args.p.receiver.settings) first past
+    (sym (found) ∙ c.in-Frame.is) in
+    let past : ℕ = c.in-Frame.end in
+    let first : ℕ = c.in-Frame.start in
+    (
+      omega (arith, said, length-take (past - first) (drop (first) c.args.recording.now), length-drop (first) c.args.recording.now),
+      c.requires,
+    )
+
+pub returns-in-End : goal.returns-in-End
+returns-in-End c =
+    let found : c.next_frame.result ≡ found_at c.args.recording.now c.args.p.offset (frame_len c.args.p.receiver.settings) = c.next_frame.ensures ∙ ap (found_at c.args.recording.now c.args.p.offset) c.frame_len.ensures in
+    end_line c.args.line.now c.args.p c.args.rows.now c.args.message.now
+    ∙ ap (printed_on c.args.line.now)
+    (ends c.args.p c.args.recording.now c.args.rows.now c.args.message.now (sym (found) ∙ c.in-End.is))
+
+pub shape_of-line-in-Part : goal.shape_of-line-in-Part
+shape_of-line-in-Part c =
+    c.stopped.auto.1.1.0
+
+pub returns-in-Part : goal.returns-in-Part
+returns-in-Part c =
+    let found : c.next_frame.result ≡ found_at c.args.recording.now c.args.p.offset (frame_len c.args.p.receiver.settings) = c.next_frame.ensures ∙ ap (found_at c.args.recording.now c.args.p.offset) c.frame_len.ensures in
+    stop_line_lem c.args.line.now _ _ _ _ c.args.p c.args.rows.now c.args.message.now BadLength
+    c.stopped.ensures.0 c.stopped.ensures.1.0 c.stopped.ensures.1.1.0 c.stopped.ensures.1.1.1
+    ∙ ap (printed_on c.args.line.now)
+    (parts c.args.p c.args.recording.now c.args.rows.now c.args.message.now (sym (found) ∙ c.in-Part.is))
+
+pub shape_of-rows : goal.shape_of-rows
+shape_of-rows c =
+    c.at_frame.auto.1.1.1.0
+
+pub shape_of-message : goal.shape_of-message
+shape_of-message c =
+    c.at_frame.auto.1.1.1.1.0
+
+pub shape_of-line-in-Frame : goal.shape_of-line-in-Frame
+shape_of-line-in-Frame c =
+    c.at_frame.auto.1.1.1.1.1.0
+
+pub returns-in-Frame : goal.returns-in-Frame
+returns-in-Frame c =
+    let first : ℕ = c.in-Frame.start in
+    let past : ℕ = c.in-Frame.end in
+    let found : c.next_frame.result ≡ found_at c.args.recording.now c.args.p.offset (frame_len c.args.p.receiver.settings) = c.next_frame.ensures ∙ ap (found_at c.args.recording.now c.args.p.offset) c.frame_len.ensures in
+    c.at_frame.ensures
+    ∙ ap (printed_on c.args.line.now)
+    (stands c.args.p c.args.recording.now c.args.rows.now c.args.message.now (first) (past)
+    (sym (found) ∙ c.in-Frame.is))

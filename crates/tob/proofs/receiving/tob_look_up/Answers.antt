@@ -1,0 +1,43 @@
+-- A cause that the state gives refuses the look_up; else it is protocol's, and its number is the reply.
+use borrow.Author.Rules.{rules}
+use mathlib.Core.Path.{◌≡◌, sym, ap, ap₂, ◌∙◌}
+use mathlib.Core.List.{List}
+use native.Mathlib.Omega.{arith}
+use Prim.Native.Nat.{ℕ}
+use lib.IntN.{ℤ}
+use lib.ListN.{length}
+use mir.Syntax.{w64}
+use mir.ValLaws.{to_z-of_z}
+use Rattle.protocol.specs.declared.Receiver.{Receiver}
+use Rattle.protocol.specs.declared.Answer.TheVariants as answer
+use Rattle.protocol.specs.Calls.{look_up_of}
+use Rattle.state.specs.State.{receiver_end, state_len, state_cause}
+use Rattle.state.proofs.KeptStates.{uncaused_length}
+use Rattle.library.specs.Calls.{Looking, looked_bytes}
+use Rattle.library.proofs.Outcomes.{look_up_caused, look_up_uncaused}
+use Rattle.tob.proofs.receiving.tob_look_up.Goals as goal
+
+abbrev outcome : List ℕ → ℕ → Looking
+outcome message reply = record { reply = reply; message = message }
+
+pub returns-in-Refused : goal.returns-in-Refused
+returns-in-Refused c =
+    ap (outcome c.args.message.now) c.number_of.ensures
+    ∙ look_up_caused c.args.state.now c.args.rows.now c.args.message.now c.args.number _
+    (sym c.state_cause-found.ensures ∙ c.in-Refused.is)
+
+pub receiver_in-requires : goal.receiver_in-requires
+receiver_in-requires c =
+    let uncaused : state_cause receiver_end c.args.state.now ≡ answer.Accepted = sym c.state_cause-found.ensures ∙ c.in_default.is in
+    let sized : length c.args.state.now ≡ state_len = uncaused_length receiver_end c.args.state.now (uncaused) in
+    omega (arith, sized)
+
+pub returns : goal.returns
+returns c =
+    let uncaused : state_cause receiver_end c.args.state.now ≡ answer.Accepted = sym c.state_cause-found.ensures ∙ c.in_default.is in
+    ap (outcome _) c.reply_number.ensures
+    ∙ ap looked_bytes
+    (c.look_up.ensures
+    ∙ ap₂ (λ (x : Receiver) (z : ℤ). look_up_of x c.args.rows.now z c.args.message.now) c.receiver_in.ensures
+    (to_z-of_z w64 c.args.number (c).fits.number))
+    ∙ look_up_uncaused c.args.state.now c.args.rows.now c.args.message.now c.args.number (uncaused)

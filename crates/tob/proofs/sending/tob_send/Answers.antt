@@ -1,0 +1,47 @@
+-- A cause that the state gives refuses the send; else it is protocol's.
+use borrow.Author.Rules.{rules}
+use mathlib.Core.Path.{◌≡◌, sym, ap, ap₂, ◌∙◌}
+use mathlib.Core.List.{List}
+use native.Mathlib.Omega.{arith}
+use Prim.Native.Nat.{ℕ}
+use lib.ListN.{length}
+use Rattle.protocol.specs.declared.Sender.{Sender}
+use Rattle.protocol.specs.declared.Answer.TheVariants as answer
+use Rattle.protocol.specs.Calls.{send_of}
+use Rattle.state.specs.State.{sender_end, state_len, saved, state_cause}
+use Rattle.protocol.specs.Histories.{is_accepted}
+use Rattle.state.proofs.KeptStates.{uncaused_length}
+use Rattle.library.specs.Calls.{Sending}
+use Rattle.library.proofs.Outcomes.{send_left, send_caused, send_uncaused}
+use Rattle.tob.proofs.sending.tob_send.Goals as goal
+
+abbrev outcome : List ℕ → List ℕ → ℕ → List ℕ → Sending
+outcome rows frame reply state = record { reply = reply; state = state; rows = rows; frame = frame }
+
+pub returns-in-Refused : goal.returns-in-Refused
+returns-in-Refused c =
+    ap (λ (n : ℕ). outcome c.args.rows.now c.args.frame.now n c.args.state.now) c.number_of.ensures
+    ∙ send_caused c.args.state.now c.args.rows.now c.args.message.now c.args.frame.now _ (sym c.state_cause-found.ensures ∙ c.in-Refused.is)
+
+pub sender_in-requires : goal.sender_in-requires
+sender_in-requires c =
+    let uncaused : state_cause sender_end c.args.state.now ≡ answer.Accepted = sym c.state_cause-found.ensures ∙ c.in_default.is in
+    let sized : length c.args.state.now ≡ state_len = uncaused_length sender_end c.args.state.now (uncaused) in
+    omega (arith, sized)
+
+pub save_answer-requires : goal.save_answer-requires
+save_answer-requires c =
+    let uncaused : state_cause sender_end c.args.state.now ≡ answer.Accepted = sym c.state_cause-found.ensures ∙ c.in_default.is in
+    let sized : length c.args.state.now ≡ state_len = uncaused_length sender_end c.args.state.now (uncaused) in
+    sized
+
+pub returns : goal.returns
+returns c =
+    let uncaused : state_cause sender_end c.args.state.now ≡ answer.Accepted = sym c.state_cause-found.ensures ∙ c.in_default.is in
+    ap₂ (outcome _ _) c.save_answer.ensures.number
+    (c.save_answer.ensures.state
+    ∙ ap (λ (bytes : List ℕ). saved (is_accepted c.send-r.result.answer) bytes c.args.state.now) c.sender_bytes.ensures)
+    ∙ ap (send_left c.args.state.now)
+    (c.send-r.ensures
+    ∙ ap (λ (x : Sender). send_of x c.args.rows.now c.args.message.now c.args.frame.now) c.sender_in.ensures)
+    ∙ send_uncaused c.args.state.now c.args.rows.now c.args.message.now c.args.frame.now (uncaused)

@@ -1,0 +1,7 @@
+-- The sum, and that the second is a byte.
+use borrow.Author.Rules.{rules}
+use Rattle.vectors.proofs.sums.plus.Goals as goal
+
+pub returns : goal.returns
+returns c =
+    (c.sum.ensures, c.ranges.y.fits)
