@@ -137,11 +137,11 @@ left_here s h known p hp x sixteen flag = go known (ltb (pivot_from x p 0 (k_of 
         )
 
 -- after any number of parity positions
-left_after : (s : Settings) → Shape s → (x : Reduced) → length x.roles ≡ 16 → (flags : List ℕ) → length flags ≡ 16 → (e : ℕ)
+left_after_lem : (s : Settings) → Shape s → (x : Reduced) → length x.roles ≡ 16 → (flags : List ℕ) → length flags ≡ 16 → (e : ℕ)
     → e ≤ s.burst → (q : ℕ) → LeftOrPivot s flags (left_after s x flags e) (columns s (known_in s flags) x e) q
 unfolding left_after columns
-left_after s h x sixteen flags many zero he q = inl refl
-left_after s h x sixteen flags many (suc e) he q =
+left_after_lem s h x sixteen flags many zero he q = inl refl
+left_after_lem s h x sixteen flags many (suc e) he q =
     let p : ℕ = k_of s + e in
     let y : Reduced = columns s (known_in s flags) x e in
     let roles : length y.roles ≡ 16 = sixteen_roles s h (known_in s flags) x sixteen e in
@@ -158,7 +158,7 @@ left_after s h x sixteen flags many (suc e) he q =
     (λ other.
     let kept : get_or (set left p flag) q 0 ≡ get_or left q 0 = get_or-set_other left p q flag 0 other in
     ⊎_elim (λ stays. inl (kept ∙ stays)) (λ gone. inr (kept ∙ gone.0, solved_step s h known p y roles q gone.1))
-    (left_after s h x sixteen flags many e (omega arith) q))
+    (left_after_lem s h x sixteen flags many e (omega arith) q))
     (same_or_other q p)
 
 -- after elimination
@@ -167,7 +167,7 @@ pub left_or_pivot : (s : Settings) → T (accepted s) → (x : Reduced) → leng
 left_or_pivot s passed x sixteen flags many q =
     let on : accepted s ≡ true = is_true (accepted s) passed in
     rw (sym (left_accepted s x flags on), sym (reduced_accepted s x flags on))
-    (left_after s (shape s passed) x sixteen flags many s.burst (le_refl s.burst) q)
+    (left_after_lem s (shape s passed) x sixteen flags many s.burst (le_refl s.burst) q)
 
 -- the flags of the sources stay
 pub left_source : (s : Settings) → T (accepted s) → (x : Reduced) (flags : List ℕ) (q : ℕ) → q < k_of s

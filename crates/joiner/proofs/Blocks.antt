@@ -21,8 +21,8 @@ module _ (a b : List ℕ) where
   abbrev pub Same : ℕ → ℕ → Type 0
   Same from end = (j : ℕ) → from ≤ j → j < end → get_or a j 0 ≡ get_or b j 0
 
-  pub part_same : (start count : ℕ) → part_same start count ≡ true → Same start (start + count)
-  part_same start count e j low high =
+  pub part_same_lem : (start count : ℕ) → part_same start count ≡ true → Same start (start + count)
+  part_same_lem start count e j low high =
       let place : start + (j - start) ≡ j = omega arith in
       subst (λ (k : ℕ). get_or a k 0 ≡ get_or b k 0) place
       (eqb→eq (get_or a (start + (j - start)) 0) (get_or b (start + (j - start)) 0)
@@ -54,7 +54,7 @@ module _ (a b : List ℕ) where
   -- bytes that are the same, and so many more
   pub further : (k count : ℕ) → Same 0 k → part_same k count ≡ true → Same 0 (k + count)
   further k count same is j low high =
-      ⊎_elim (λ late. part_same k count is j late high) (λ early. same j low early) (le_or_lt k j)
+      ⊎_elim (λ late. part_same_lem k count is j late high) (λ early. same j low early) (le_or_lt k j)
 
   -- what came before is the same, and the rest lies in the last sixteen
   pub last_part : (n k : ℕ) → 16 ≤ n → n ≤ k + 16 → Same 0 k → part_same (n - 16) 16 ≡ agree n a b
@@ -63,7 +63,7 @@ module _ (a b : List ℕ) where
       go : (t : Bool) → part_same (n - 16) 16 ≡ t → part_same (n - 16) 16 ≡ agree n a b
       go true is =
           is ∙ sym (all_same n (λ j low high.
-          ⊎_elim (λ late. part_same (n - 16) 16 is j late (omega arith)) (λ early. same j low (omega arith)) (le_or_lt (n - 16) j)))
+          ⊎_elim (λ late. part_same_lem (n - 16) 16 is j late (omega arith)) (λ early. same j low (omega arith)) (le_or_lt (n - 16) j)))
       go false is = is ∙ sym (part_differs n (n - 16) 16 (omega arith) is)
 
   -- sixteen more, and then the last

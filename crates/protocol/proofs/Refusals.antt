@@ -41,6 +41,7 @@ found_first c (r ∷ rs) e = go (found_first c rs) r.holds refl e
     go rest false h e = later (λ t. subst T h t) (rest e)
 
 pub first_found : (c : Cause) (rs : List Row) → First c rs → first_of rs ≡ answer.Refused c
+first_found c [] x' = elim x' [ ]
 first_found c (r ∷ rs) (here h e) = go r.holds h
   where
     go : (b : Bool) → T b → check b r.why (first_of rs) ≡ answer.Refused c

@@ -38,9 +38,9 @@ positive : (s : Settings) → 0 < row_len s
 unfolding row_len
 positive s = omega arith
 
-pub opened_rows : (s : Settings) (slot : ℕ) → table (receiver_len s) (opened_byte (row_len s) slot) ≡ opened_rows s slot
+pub opened_rows_lem : (s : Settings) (slot : ℕ) → table (receiver_len s) (opened_byte (row_len s) slot) ≡ opened_rows s slot
 unfolding receiver_len
-opened_rows s slot =
+opened_rows_lem s slot =
     let size : ℕ = row_len s in
     let byte : ℕ → ℕ = opened_byte size slot in
     let row = first_row s slot in

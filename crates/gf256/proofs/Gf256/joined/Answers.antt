@@ -11,3 +11,10 @@ pub returns : goal.returns
 unfolding byte
 returns c =
     ap₂ (λ (h l : ℕ). h * 16 + l) c.widened.ensures c.widened-2.ensures
+
+pub overflow_mul-result : goal.overflow_mul-result
+overflow_mul-result c = omega (arith, c.widened.ensures, widen_below c.args.h.0)
+
+pub overflow_add-result : goal.overflow_add-result
+overflow_add-result c =
+    omega (arith, c.widened.ensures, c.widened-2.ensures, widen_below c.args.h.0, widen_below c.args.l.0)

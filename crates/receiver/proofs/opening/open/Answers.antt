@@ -9,7 +9,7 @@ use Rattle.protocol.specs.Causes.{open_receiver_cause}
 use Rattle.protocol.specs.Lengths.{row_len}
 use Rattle.protocol.proofs.CauseTables.{receiver_open}
 use Rattle.ring.specs.Bytes.{opened_byte}
-use Rattle.ring.proofs.OpenedRows.{opened_rows}
+use Rattle.ring.proofs.OpenedRows.{opened_rows_lem}
 use Rattle.receiver.proofs.Outcomes.{opening, unopened, opened}
 use Rattle.receiver.proofs.opening.open.Goals as goal
 
@@ -29,6 +29,6 @@ returns c =
     (c.write_opened.ensures
     ∙ ap₂ (λ (n m : ℕ). table n (opened_byte m c.args.slot))
     (receiver_open c.args.s c.args.slot c.args.rows.now (uncaused)).exact c.row_len.ensures
-    ∙ opened_rows c.args.s c.args.slot)
+    ∙ opened_rows_lem c.args.s c.args.slot)
     c.opened_receiver.ensures
     ∙ opened c.args.s c.args.slot c.args.rows.now (uncaused)
