@@ -1,3 +1,2 @@
--- The laws that a caller cites, and what the walks cite.
+-- The laws that a caller cites.
 pub mod FoundLaws
-pub mod TwoFacts

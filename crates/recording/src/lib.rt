@@ -1,5 +1,5 @@
 // A recording of frames, all of one length, back to back: what stands at an offset of it, and a reader that walks it without copying.
-// The functions over the reader are thin, since each is proved by a walk; next_frame has plain parameters, so its callers need no walk.
+// The functions over the reader are thin: what stands at an offset is looked at in frame_at alone; next_frame has plain parameters.
 #![tactic(auto)]
 
 ghost use Rattle.std.specs.Prelude.{◌≡◌};

@@ -1,5 +1,4 @@
 -- At each way out, the tests that led there say which case of the definition holds.
-use borrow.Author.Rules.{rules}
 use mathlib.Core.Path.{sym}
 use native.Mathlib.Omega.{arith}
 use Rattle.recording.proofs.FoundLaws.{end_stands, none_stands, part_stands, frame_stands}
