@@ -10,14 +10,14 @@ use Rattle.columns.proofs.scaled.Goals as goal
 
 pub returns-then-row-p-eq1 : goal.returns-then-row-p-eq1
 returns-then-row-p-eq1 c =
-    let bytes : (j : ℕ) → get_or c.args.t1 j 0 < 256 = array_below 16 c.args.t1 _ c.well_formed.0 in
-    row_by_one c.args.t1 (get_or c.args.t1 c.args.p 0) (search rules) (bytes) c.if-row-p-eq1.true
+    let bytes : (j : ℕ) → get_or c.args.row j 0 < 256 = array_below 16 c.args.row _ c.well_formed.0 in
+    row_by_one c.args.row (get_or c.args.row c.args.p 0) (search rules) (bytes) c.if-row-p-eq1.true
 
 pub returns-in-None : goal.returns-in-None
 returns-in-None c =
-    row_zeros c.args.t1 _ (sym c.reciprocal_in.ensures ∙ ap answered c.in-None.is)
+    row_zeros c.args.row _ (sym c.reciprocal_in.ensures ∙ ap answered c.in-None.is)
 
 pub returns-in-Element : goal.returns-in-Element
 returns-in-Element c =
     c.row_times.ensures
-    ∙ row_divided c.args.t1 _ _ (sym c.reciprocal_in.ensures ∙ ap answered c.in-Element.is)
+    ∙ row_divided c.args.row _ _ (sym c.reciprocal_in.ensures ∙ ap answered c.in-Element.is)

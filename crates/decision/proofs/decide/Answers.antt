@@ -15,11 +15,11 @@ use Rattle.decision.proofs.decide.Goals as goal
 pub returns-then-not-accepted : goal.returns-then-not-accepted
 returns-then-not-accepted c =
     bad_settings c.args.s c.args.rows.now c.args.due c.args.t c.args.message.now
-    (sym c.accepted.ensures ∙ not-true c.accepted.result c.if-not-accepted.true)
+    (sym c.accepted.ensures ∙ c.if-not-accepted.true)
 
 pub returns-then-rows-receiver_len : goal.returns-then-rows-receiver_len
 returns-then-rows-receiver_len c =
-    let passed : T (accepted c.args.s) = subst⁻¹ T (sym c.accepted.ensures ∙ not-false c.accepted.result c.if-not-accepted.false) tt in
+    let passed : T (accepted c.args.s) = subst⁻¹ T (sym c.accepted.ensures ∙ c.if-not-accepted.false) tt in
     let ok = passed in
     ⊎_elim
     (λ w. bad_rows c.args.s c.args.rows.now c.args.due c.args.t c.args.message.now ok
@@ -30,7 +30,7 @@ returns-then-rows-receiver_len c =
 
 pub decided-requires : goal.decided-requires
 decided-requires c =
-    let passed : T (accepted c.args.s) = subst⁻¹ T (sym c.accepted.ensures ∙ not-false c.accepted.result c.if-not-accepted.false) tt in
+    let passed : T (accepted c.args.s) = subst⁻¹ T (sym c.accepted.ensures ∙ c.if-not-accepted.false) tt in
     let full : length c.args.rows.now ≡ receiver_len c.args.s = c.if-rows-receiver_len.false ∙ c.receiver_len.ensures in
     let fits : length c.args.message.now ≡ message_len c.args.s = eqb-true (length c.args.message.now) c.message_len.result (not-false _ c.if-message-message_len.false) ∙ c.message_len.ensures in
     (record { settings = passed; rows_exact = full; slot_fits = omega arith }, omega arith, fits)
@@ -41,7 +41,7 @@ shape_of-message c =
 
 pub returns : goal.returns
 returns c =
-    let passed : T (accepted c.args.s) = subst⁻¹ T (sym c.accepted.ensures ∙ not-false c.accepted.result c.if-not-accepted.false) tt in
+    let passed : T (accepted c.args.s) = subst⁻¹ T (sym c.accepted.ensures ∙ c.if-not-accepted.false) tt in
     let full : length c.args.rows.now ≡ receiver_len c.args.s = c.if-rows-receiver_len.false ∙ c.receiver_len.ensures in
     let fits : length c.args.message.now ≡ message_len c.args.s = eqb-true (length c.args.message.now) c.message_len.result (not-false _ c.if-message-message_len.false) ∙ c.message_len.ensures in
     ap (outcome c.decided.result) c.decided.ensures.message

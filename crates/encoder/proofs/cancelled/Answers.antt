@@ -34,27 +34,27 @@ reached row done i m p = get_or row p 0 ⊕ sum (m - (i + 1)) (λ e. get_or row 
 
 pub loop-m-init : goal.loop-m-init
 loop-m-init c =
-    let sixteen : length c.args.t1 ≡ 16 = search rules in (
+    let sixteen : length c.args.row ≡ 16 = search rules in (
       omega arith,
       omega arith,
-      is_table 16 (reached c.args.t1 c.args.done.now c.args.i (c.args.i + 1)) 0 c.args.t1 sixteen
-          (λ p h. reached_none c.args.t1 c.args.done.now c.args.i p),
+      is_table 16 (reached c.args.row c.args.done.now c.args.i (c.args.i + 1)) 0 c.args.row sixteen
+          (λ p h. reached_none c.args.row c.args.done.now c.args.i p),
     )
 
 pub loop-m-preserved : goal.loop-m-preserved
 loop-m-preserved c =
-    let f : ℕ → ℕ → ℕ = reached c.args.t1 c.args.done.now c.args.i in (
+    let f : ℕ → ℕ → ℕ = reached c.args.row c.args.done.now c.args.i in (
       omega arith,
       omega arith,
       c.plus_multiple-sum.ensures
-          ∙ table_equal 16 (λ p. get_or c.loop-m.out p 0 ⊕ get_or c.args.t1 c.loop-m.m 0 ⊗ get_or (get_or c.args.done.now c.loop-m.m []) p 0) (f (c.loop-m.m + 1))
+          ∙ table_equal 16 (λ p. get_or c.loop-m.out p 0 ⊕ get_or c.args.row c.loop-m.m 0 ⊗ get_or (get_or c.args.done.now c.loop-m.m []) p 0) (f (c.loop-m.m + 1))
           (λ p h.
-          ap (λ (x : ℕ). x ⊕ get_or c.args.t1 c.loop-m.m 0 ⊗ get_or (get_or c.args.done.now c.loop-m.m []) p 0)
+          ap (λ (x : ℕ). x ⊕ get_or c.args.row c.loop-m.m 0 ⊗ get_or (get_or c.args.done.now c.loop-m.m []) p 0)
           (ap (λ (l : List ℕ). get_or l p 0) c.loop-m.invariant.2 ∙ get_or-table 16 (f c.loop-m.m) p 0 h)
-          ∙ reached_more c.args.t1 c.args.done.now c.args.i c.loop-m.m p c.loop-m.invariant.0),
+          ∙ reached_more c.args.row c.args.done.now c.args.i c.loop-m.m p c.loop-m.invariant.0),
     )
 
 pub returns : goal.returns
 returns c =
     let all : c.loop-m.m ≡ c.args.end = omega arith in
-    c.loop-m.invariant.2 ∙ ap (λ (m : ℕ). table 16 (reached c.args.t1 c.args.done.now c.args.i m)) all
+    c.loop-m.invariant.2 ∙ ap (λ (m : ℕ). table 16 (reached c.args.row c.args.done.now c.args.i m)) all

@@ -17,10 +17,10 @@ loop-j-preserved c =
     (
       omega arith,
       simp length-set c.loop-j.invariant.1,
-      filled_more (λ i. get_or c.args.t1 i 0 ⊕ c.args.number.0 ⊗ get_or c.args.t3 i 0) 0 c.loop-j.out c.loop-j.j c.sum.result.0 (omega arith)
-          (c.sum.ensures ∙ ap (λ (x : ℕ). get_or c.args.t1 c.loop-j.j 0 ⊕ x) c.product.ensures) c.loop-j.invariant.2,
+      filled_more (λ i. get_or c.args.row i 0 ⊕ c.args.number.0 ⊗ get_or c.args.other i 0) 0 c.loop-j.out c.loop-j.j c.sum.result.0 (omega arith)
+          (c.sum.ensures ∙ ap (λ (x : ℕ). get_or c.args.row c.loop-j.j 0 ⊕ x) c.product.ensures) c.loop-j.invariant.2,
     )
 
 pub returns : goal.returns
 returns c =
-    is_table 16 (λ i. get_or c.args.t1 i 0 ⊕ c.args.number.0 ⊗ get_or c.args.t3 i 0) 0 c.loop-j.out c.loop-j.invariant.1 (λ i h. c.loop-j.invariant.2 i (omega arith))
+    is_table 16 (λ i. get_or c.args.row i 0 ⊕ c.args.number.0 ⊗ get_or c.args.other i 0) 0 c.loop-j.out c.loop-j.invariant.1 (λ i h. c.loop-j.invariant.2 i (omega arith))

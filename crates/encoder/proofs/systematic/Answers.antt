@@ -20,13 +20,13 @@ use Rattle.encoder.proofs.systematic.Goals as goal
 pub returns-then-not-accepted : goal.returns-then-not-accepted
 unfolding table
 returns-then-not-accepted c =
-    systematic_refused c.args.s (sym c.accepted.ensures ∙ not-true c.accepted.result c.if-not-accepted.true)
+    systematic_refused c.args.s (sym c.accepted.ensures ∙ c.if-not-accepted.true)
 
 pub loop-i-init : goal.loop-i-init
 unfolding table
 loop-i-init c =
     let shaped = shape c.args.s (subst⁻¹ T (sym c.accepted.ensures
-    ∙ not-false c.accepted.result c.if-not-accepted.false) tt) in (
+    ∙ c.if-not-accepted.false) tt) in (
       shaped,
       omega arith,
       refl,
@@ -60,4 +60,4 @@ pub returns : goal.returns
 returns c =
     is_table 16 (λ i. table 16 (λ p. symbol c.args.s (unit i) p)) [] c.loop-i.rows c.loop-i.invariant.2 (λ i h. c.loop-i.invariant.3 i (omega arith) h)
     ∙ systematic_accepted c.args.s (sym c.accepted.ensures
-    ∙ not-false c.accepted.result c.if-not-accepted.false)
+    ∙ c.if-not-accepted.false)

@@ -25,30 +25,25 @@ gather-requires c =
 
 pub clashing-requires : goal.clashing-requires
 clashing-requires c =
-    let start : tie.Start = c in
-    let pairs : List (List ℕ) = c.gather.new.pairs in
     let shaped : Shape start.args.s = shape start.args.s start.pre.0.settings in
-    let paired : Paired (pairs_of (k_of start.args.s)) pairs = let a = start.args in
+    let paired : Paired (pairs_of (k_of start.args.s)) c.gather.new.pairs = let a = start.args in
     subst⁻¹ (Paired (pairs_of (k_of a.s))) c.gather.ensures (all-paired a.s a.roles.now a.places.now a.bytes.now shaped) in
-    let from = start in (from.pre.0, paired, from.pre.5)
+    let from = (c) in (from.pre.0, paired, from.pre.5)
 
 pub returns-then-clashing : goal.returns-then-clashing
 returns-then-clashing c =
-    let start : tie.Start = c in
-    let x : Reduced = both start.args.rows.now start.args.roles.now in
-    let pairs : List (List ℕ) = c.gather.new.pairs in
     let shaped : Shape start.args.s = shape start.args.s start.pre.0.settings in
     let small : (q : ℕ) → get_or start.args.bytes.now q 0 < 256 = λ q. (c.shared_slice_known-1.given q).fits in
     let shared : let a = start.args in
-    Shared a.s a.roles.now a.places.now a.bytes.now pairs = let a = start.args in
+    Shared a.s a.roles.now a.places.now a.bytes.now c.gather.new.pairs = let a = start.args in
     subst⁻¹ (Shared a.s a.roles.now a.places.now a.bytes.now) c.gather.ensures
     (all-shared a.s a.roles.now a.places.now a.bytes.now shaped small) in
-    let checked : let a = (start).args in
-    c.clashing.result ≡ lanes_clash a.s (x) a.flags.now a.places.now a.bytes.now = let a = (start).args in
+    let checked : let a = ((c)).args in
+    c.clashing.result ≡ lanes_clash a.s ((both start.args.rows.now start.args.roles.now)) a.flags.now a.places.now a.bytes.now = let a = ((c)).args in
     c.clashing.ensures
-    ∙ clash_sums a.s (x) a.flags.now a.places.now a.bytes.now (pairs) (shaped) (shared) in
-    let a = (start).args in
-    said_clash a.s (x) a.flags.now a.places.now a.bytes.now a.i a.out.now
+    ∙ clash_sums a.s ((both start.args.rows.now start.args.roles.now)) a.flags.now a.places.now a.bytes.now (c.gather.new.pairs) (shaped) (shared) in
+    let a = ((c)).args in
+    said_clash a.s ((both start.args.rows.now start.args.roles.now)) a.flags.now a.places.now a.bytes.now a.i a.out.now
     (sym (checked) ∙ c.if-clashing.true)
 
 pub bounds-roles-i : goal.bounds-roles-i
@@ -65,94 +60,81 @@ overflow_cast-i c =
 
 pub write_own-requires : goal.write_own-requires
 write_own-requires c =
-    let start : tie.Start = c in
     let shaped : Shape start.args.s = shape start.args.s start.pre.0.settings in
-    let from = start in
+    let from = (c) in
     let h = shaped in
     (from.pre.0, omega arith, from.pre.3)
 
 pub returns-then-roles-i : goal.returns-then-roles-i
 returns-then-roles-i c =
-    let start : tie.Start = c in
     let shaped : Shape start.args.s = shape start.args.s start.pre.0.settings in
-    let x : Reduced = both start.args.rows.now start.args.roles.now in
     let small : (q : ℕ) → get_or start.args.bytes.now q 0 < 256 = λ q. (c.shared_slice_known-1.given q).fits in
-    let pairs : List (List ℕ) = c.gather.new.pairs in
     let shared : let a = start.args in
-    Shared a.s a.roles.now a.places.now a.bytes.now pairs = let a = start.args in
+    Shared a.s a.roles.now a.places.now a.bytes.now c.gather.new.pairs = let a = start.args in
     subst⁻¹ (Shared a.s a.roles.now a.places.now a.bytes.now) c.gather.ensures
     (all-shared a.s a.roles.now a.places.now a.bytes.now shaped small) in
-    let checked : let a = (start).args in
-    c.clashing.result ≡ lanes_clash a.s (x) a.flags.now a.places.now a.bytes.now = let a = (start).args in
+    let checked : let a = ((c)).args in
+    c.clashing.result ≡ lanes_clash a.s ((both start.args.rows.now start.args.roles.now)) a.flags.now a.places.now a.bytes.now = let a = ((c)).args in
     c.clashing.ensures
-    ∙ clash_sums a.s (x) a.flags.now a.places.now a.bytes.now (pairs) (shaped) (shared) in
-    let from = start in
+    ∙ clash_sums a.s ((both start.args.rows.now start.args.roles.now)) a.flags.now a.places.now a.bytes.now (c.gather.new.pairs) (shaped) (shared) in
+    let from = (c) in
     let a = from.args in
     let h = shaped in
     let inside : a.i < 16 = omega arith in
     let role = get_d_default a.roles.now a.i 16 0 (omega arith) ∙ c.if-roles-i.true in
     ap (answers 0)
     (c.write_own.ensures
-    ∙ own_lanes a.s (x) a.places.now a.bytes.now a.i from.pre.4 role h from.pre.1 (small))
-    ∙ said_whole a.s (x) a.flags.now a.places.now a.bytes.now a.i a.out.now
-    (sym (checked) ∙ c.if-clashing.false) (own_differs a.s (x) a.i from.pre.4 role h from.pre.1)
+    ∙ own_lanes a.s ((both start.args.rows.now start.args.roles.now)) a.places.now a.bytes.now a.i from.pre.4 role h from.pre.1 (small))
+    ∙ said_whole a.s ((both start.args.rows.now start.args.roles.now)) a.flags.now a.places.now a.bytes.now a.i a.out.now
+    (sym (checked) ∙ c.if-clashing.false) (own_differs a.s ((both start.args.rows.now start.args.roles.now)) a.i from.pre.4 role h from.pre.1)
 
 pub differing-requires : goal.differing-requires
 differing-requires c =
     let shaped : Shape start.args.s = shape start.args.s start.pre.0.settings in
     let few : start.args.i < 16 = let h = shaped in omega arith in
-    let start : tie.Start = c in
     let h = shaped in
-    (few, omega arith, (start).requires.2)
+    (few, omega arith, ((c)).requires.2)
 
 pub returns-then-differing : goal.returns-then-differing
 returns-then-differing c =
-    let start : tie.Start = c in
-    let x : Reduced = both start.args.rows.now start.args.roles.now in
-    let pairs : List (List ℕ) = c.gather.new.pairs in
     let shaped : Shape start.args.s = shape start.args.s start.pre.0.settings in
     let small : (q : ℕ) → get_or start.args.bytes.now q 0 < 256 = λ q. (c.shared_slice_known-1.given q).fits in
     let shared : let a = start.args in
-    Shared a.s a.roles.now a.places.now a.bytes.now pairs = let a = start.args in
+    Shared a.s a.roles.now a.places.now a.bytes.now c.gather.new.pairs = let a = start.args in
     subst⁻¹ (Shared a.s a.roles.now a.places.now a.bytes.now) c.gather.ensures
     (all-shared a.s a.roles.now a.places.now a.bytes.now shaped small) in
-    let checked : let a = (start).args in
-    c.clashing.result ≡ lanes_clash a.s (x) a.flags.now a.places.now a.bytes.now = let a = (start).args in
+    let checked : let a = ((c)).args in
+    c.clashing.result ≡ lanes_clash a.s ((both start.args.rows.now start.args.roles.now)) a.flags.now a.places.now a.bytes.now = let a = ((c)).args in
     c.clashing.ensures
-    ∙ clash_sums a.s (x) a.flags.now a.places.now a.bytes.now (pairs) (shaped) (shared) in
-    let a = (start).args in
-    said_lost a.s (x) a.flags.now a.places.now a.bytes.now a.i a.out.now
+    ∙ clash_sums a.s ((both start.args.rows.now start.args.roles.now)) a.flags.now a.places.now a.bytes.now (c.gather.new.pairs) (shaped) (shared) in
+    let a = ((c)).args in
+    said_lost a.s ((both start.args.rows.now start.args.roles.now)) a.flags.now a.places.now a.bytes.now a.i a.out.now
     (sym (checked) ∙ c.if-clashing.false) (sym c.differing.ensures ∙ c.if-differing.true)
 
 pub write_sum-requires : goal.write_sum-requires
 write_sum-requires c =
-    let start : tie.Start = c in
     let shaped : Shape start.args.s = shape start.args.s start.pre.0.settings in
-    let pairs : List (List ℕ) = c.gather.new.pairs in
-    let paired : Paired (pairs_of (k_of start.args.s)) pairs = let a = start.args in
+    let paired : Paired (pairs_of (k_of start.args.s)) c.gather.new.pairs = let a = start.args in
     subst⁻¹ (Paired (pairs_of (k_of a.s))) c.gather.ensures (all-paired a.s a.roles.now a.places.now a.bytes.now shaped) in
-    let from = start in
+    let from = (c) in
     let h = shaped in
     (from.pre.0.settings, paired, omega arith, from.pre.3)
 
 pub returns : goal.returns
 returns c =
-    let start : tie.Start = c in
-    let x : Reduced = both start.args.rows.now start.args.roles.now in
-    let pairs : List (List ℕ) = c.gather.new.pairs in
     let shaped : Shape start.args.s = shape start.args.s start.pre.0.settings in
     let small : (q : ℕ) → get_or start.args.bytes.now q 0 < 256 = λ q. (c.shared_slice_known-1.given q).fits in
     let shared : let a = start.args in
-    Shared a.s a.roles.now a.places.now a.bytes.now pairs = let a = start.args in
+    Shared a.s a.roles.now a.places.now a.bytes.now c.gather.new.pairs = let a = start.args in
     subst⁻¹ (Shared a.s a.roles.now a.places.now a.bytes.now) c.gather.ensures
     (all-shared a.s a.roles.now a.places.now a.bytes.now shaped small) in
-    let checked : let a = (start).args in
-    c.clashing.result ≡ lanes_clash a.s (x) a.flags.now a.places.now a.bytes.now = let a = (start).args in
+    let checked : let a = ((c)).args in
+    c.clashing.result ≡ lanes_clash a.s ((both start.args.rows.now start.args.roles.now)) a.flags.now a.places.now a.bytes.now = let a = ((c)).args in
     c.clashing.ensures
-    ∙ clash_sums a.s (x) a.flags.now a.places.now a.bytes.now (pairs) (shaped) (shared) in
-    let a = (start).args in
+    ∙ clash_sums a.s ((both start.args.rows.now start.args.roles.now)) a.flags.now a.places.now a.bytes.now (c.gather.new.pairs) (shaped) (shared) in
+    let a = ((c)).args in
     ap (answers 0)
     (c.write_sum.ensures
-    ∙ sums_combined a.s (x) a.places.now a.bytes.now (pairs) (shaped) (shared) a.i)
-    ∙ said_whole a.s (x) a.flags.now a.places.now a.bytes.now a.i a.out.now
+    ∙ sums_combined a.s ((both start.args.rows.now start.args.roles.now)) a.places.now a.bytes.now (c.gather.new.pairs) (shaped) (shared) a.i)
+    ∙ said_whole a.s ((both start.args.rows.now start.args.roles.now)) a.flags.now a.places.now a.bytes.now a.i a.out.now
     (sym (checked) ∙ c.if-clashing.false) (sym c.differing.ensures ∙ c.if-differing.false)

@@ -40,83 +40,67 @@ loop-e-init c =
 
 pub overflow_add-p : goal.overflow_add-p
 overflow_add-p c =
-    let entered : tie.After-sources invariant-loop decreases-loop = at-loop.before in
-    let e : ℕ = at-loop.loop.e in
-    let is_position : c.sources-in-loop-e.result + e ≡ k_of from.args.s + e = ap (λ (k : ℕ). k + e) c.sources-in-loop-e.ensures in
-    let below : e < from.args.s.burst = omega arith in
-    let within : c.sources-in-loop-e.result + e < n_of from.args.s = let h = shaped entered in omega (arith, is_position, below) in
-    let h = shaped (entered) in omega (arith, within)
+    let is_position : c.sources-in-loop-e.result + (at-loop.loop.e) ≡ k_of from.args.s + (at-loop.loop.e) = ap (λ (k : ℕ). k + (at-loop.loop.e)) c.sources-in-loop-e.ensures in
+    let below : (at-loop.loop.e) < from.args.s.burst = omega arith in
+    let within : c.sources-in-loop-e.result + (at-loop.loop.e) < n_of from.args.s = let h = shaped (at-loop.before) in omega (arith, is_position, below) in
+    let h = shaped ((at-loop.before)) in omega (arith, within)
 
 pub gather-requires : goal.gather-requires
 gather-requires c =
-    let entered : tie.After-sources invariant-loop decreases-loop = at-loop.before in
-    let from : tie.Start invariant-loop decreases-loop = start entered in
-    let e : ℕ = at-loop.loop.e in
-    let is_position : c.sources-in-loop-e.result + e ≡ k_of from.args.s + e = ap (λ (k : ℕ). k + e) c.sources-in-loop-e.ensures in
-    let below : e < from.args.s.burst = omega arith in
-    let within : c.sources-in-loop-e.result + e < n_of from.args.s = let h = shaped entered in omega (arith, is_position, below) in
-    let at-loop : tie.At-loop invariant-loop decreases-loop = c in
-    let pre = (from).requires in
-    (pre.0, pre.1, omega (arith, is_position), within, (at-loop).loop.invariant.3)
+    let is_position : c.sources-in-loop-e.result + (at-loop.loop.e) ≡ k_of from.args.s + (at-loop.loop.e) = ap (λ (k : ℕ). k + (at-loop.loop.e)) c.sources-in-loop-e.ensures in
+    let below : (at-loop.loop.e) < from.args.s.burst = omega arith in
+    let within : c.sources-in-loop-e.result + (at-loop.loop.e) < n_of from.args.s = let h = shaped (at-loop.before) in omega (arith, is_position, below) in
+    let pre = ((start (at-loop.before))).requires in
+    (pre.0, pre.1, omega (arith, is_position), within, ((c)).loop.invariant.3)
 
 pub weighted-sum-requires : goal.weighted-sum-requires
 weighted-sum-requires c =
-    let turn : tie.After-sources2 invariant-loop decreases-loop = c in
-    let paired : Paired (pairs_of (k_of (from turn).args.s)) c.gather.new.pairs = let a = (from turn).args in
-    let at = (at-loop turn).loop in
+    let paired : Paired (pairs_of (k_of (from (c)).args.s)) c.gather.new.pairs = let a = (from (c)).args in
+    let at = (at-loop (c)).loop in
     subst⁻¹ (Paired (pairs_of (k_of a.s))) c.gather.ensures
-    (gathered_paired a.rows.now a.s.lanes (source_of a.s a.due (turn.sources2.result + e turn)) at.pairs
-    (shaped (entered turn)).lanes_few at.inv.3 (pairs_of (k_of a.s))
-    (pairs_of (k_of a.s)) (count_few (entered turn)) at.inv.4) in
-    let counted = entered (turn) in
+    (gathered_paired a.rows.now a.s.lanes (source_of a.s a.due (turn.sources2.result + e (c))) at.pairs
+    (shaped (entered (c))).lanes_few at.inv.3 (pairs_of (k_of a.s))
+    (pairs_of (k_of a.s)) (count_few (entered (c))) at.inv.4) in
+    let counted = entered ((c)) in
     let h = shaped counted in (
-      omega (arith, within (turn)),
+      omega (arith, within ((c))),
       omega (arith, is_count counted, count_few counted),
       subst⁻¹ (λ (m : ℕ). Paired m c.gather.new.pairs) (is_count counted) (paired),
     )
 
 pub overflow_mul-e : goal.overflow_mul-e
 overflow_mul-e c =
-    let summed : tie.After-gather invariant-loop decreases-loop = c in
-    let t = turn (summed) in omega (arith, ends t, few t)
+    let t = turn ((c)) in omega (arith, ends t, few t)
 
 pub slice_bounds-sum-end : goal.slice_bounds-sum-end
 slice_bounds-sum-end c =
-    let lanes : ℕ = (from (turn summed)).args.s.lanes in
-    let summed : tie.After-gather invariant-loop decreases-loop = c in
     let sums_long : length c.weighted-sum.result ≡ 64 = search rules in
-    let lanes_few : lanes ≤ length c.weighted-sum.result = let h = shaped (entered (turn summed)) in omega (arith, sums_long) in
+    let lanes_few : ((from (turn (c))).args.s.lanes) ≤ length c.weighted-sum.result = let h = shaped (entered (turn (c))) in omega (arith, sums_long) in
     lanes_few
 
 pub slice_bounds-write_at-end : goal.slice_bounds-write_at-end
 slice_bounds-write_at-end c =
-    let summed : tie.After-gather invariant-loop decreases-loop = c in
-    let lanes : ℕ = (from (turn summed)).args.s.lanes in
     let sums_long : length c.weighted-sum.result ≡ 64 = search rules in
-    let lanes_few : lanes ≤ length c.weighted-sum.result = let h = shaped (entered (turn summed)) in omega (arith, sums_long) in
-    let lanes_long : length (take lanes c.weighted-sum.result) ≡ lanes = length-take-le lanes c.weighted-sum.result lanes_few in
+    let lanes_few : ((from (turn (c))).args.s.lanes) ≤ length c.weighted-sum.result = let h = shaped (entered (turn (c))) in omega (arith, sums_long) in
+    let lanes_long : length (take ((from (turn (c))).args.s.lanes) c.weighted-sum.result) ≡ ((from (turn (c))).args.s.lanes) = length-take-le ((from (turn (c))).args.s.lanes) c.weighted-sum.result lanes_few in
     sym (lanes_long)
 
 pub write_at-requires : goal.write_at-requires
 write_at-requires c =
-    let lanes : ℕ = (from (turn summed)).args.s.lanes in
     let sums_long : length c.weighted-sum.result ≡ 64 = search rules in
-    let lanes_few : lanes ≤ length c.weighted-sum.result = let h = shaped (entered (turn summed)) in omega (arith, sums_long) in
-    let lanes_long : length (take lanes c.weighted-sum.result) ≡ lanes = length-take-le lanes c.weighted-sum.result lanes_few in
-    let summed : tie.After-gather invariant-loop decreases-loop = c in
-    omega (arith, lanes_long, ends (turn (summed)))
+    let lanes_few : ((from (turn (c))).args.s.lanes) ≤ length c.weighted-sum.result = let h = shaped (entered (turn (c))) in omega (arith, sums_long) in
+    let lanes_long : length (take ((from (turn (c))).args.s.lanes) c.weighted-sum.result) ≡ ((from (turn (c))).args.s.lanes) = length-take-le ((from (turn (c))).args.s.lanes) c.weighted-sum.result lanes_few in
+    omega (arith, lanes_long, ends (turn ((c))))
 
 pub loop-e-preserved : goal.loop-e-preserved
 loop-e-preserved c =
-    let summed : tie.After-gather invariant-loop decreases-loop = c in
-    let lanes : ℕ = (from (turn summed)).args.s.lanes in
-    let is_parity : let a = (from (turn summed)).args in
-    take lanes c.weighted-sum.result ≡ parity_of a.s a.rows.now a.due (k_of a.s + e (turn summed)) = let at = turn summed in
+    let is_parity : let a = (from (turn (c))).args in
+    take ((from (turn (c))).args.s.lanes) c.weighted-sum.result ≡ parity_of a.s a.rows.now a.due (k_of a.s + e (turn (c))) = let at = turn (c) in
     let counted = entered at in
     let a = (from at).args in
     let p : ℕ = at.sources2.result + e at in
     let pairs : List (List ℕ) = (at-loop at).loop.pairs in
-    ap (take lanes)
+    ap (take ((from (turn (c))).args.s.lanes))
     (c.weighted-sum.ensures
     ∙ ap₂ (λ (l : List (List ℕ)) (m : ℕ). weighted_of counted.before.before.systematic.result p l m) summed.gather.ensures (is_count counted)
     ∙ ap (λ (form : List (List ℕ)). weighted_of form p (gathered_of a.rows.now a.s.lanes (source_of a.s a.due p) (pairs_of (k_of a.s)) pairs) (pairs_of (k_of a.s)))
@@ -125,15 +109,15 @@ loop-e-preserved c =
     (λ q. (counted.before.before.before.shared-slice-known.given q).fits) (omega (arith, is_position at)) (within at)
     (is_true _ (from at).pre.0)
     ∙ ap (parity_of a.s a.rows.now a.due) (is_position at) in
-    let t = turn (summed) in
+    let t = turn ((c)) in
     let a = (from t).args in (
       omega (arith, below t),
       c.write_at.auto.0 ∙ (at-loop t).loop.inv.1,
       c.write_at.ensures
-          ∙ parities_more a.s a.rows.now a.due (e t) a.out.now (at-loop t).loop.out (take (lanes) c.weighted-sum.result)
+          ∙ parities_more a.s a.rows.now a.due (e t) a.out.now (at-loop t).loop.out (take (((from (turn (c))).args.s.lanes)) c.weighted-sum.result)
           (at-loop t).loop.inv.2 (is_parity),
-      wide (summed),
-      paired (summed),
+      wide ((c)),
+      paired ((c)),
     )
 
 pub shape_of-out : goal.shape_of-out

@@ -10,7 +10,7 @@ use Rattle.patterns.proofs.patterns.Goals as goal
 
 pub loop-j-init : goal.loop-j-init
 loop-j-init c =
-    (omega arith, subst⁻¹ T (sym c.accepted.ensures ∙ not-false c.accepted.result c.if-not-accepted.false) tt, c.requires)
+    (omega arith, subst⁻¹ T (sym c.accepted.ensures ∙ c.if-not-accepted.false) tt, c.requires)
 
 pub pattern-requires : goal.pattern-requires
 pattern-requires c =

@@ -21,13 +21,13 @@ pub returns-then-not-accepted : goal.returns-then-not-accepted
 returns-then-not-accepted c =
     let x = both c.args.matrix c.args.roles.now in
     let refused : accepted c.args.s ≡ false =
-    sym c.accepted.ensures ∙ not-true c.accepted.result c.if-not-accepted.true in
+    sym c.accepted.ensures ∙ c.if-not-accepted.true in
     (reduced_refused c.args.s x c.args.flags.now refused, left_refused c.args.s x c.args.flags.now refused)
 
 pub loop-p-init : goal.loop-p-init
 unfolding columns left_after
 loop-p-init c =
-    let passed : accepted c.args.s ≡ true = sym c.accepted.ensures ∙ not-false c.accepted.result c.if-not-accepted.false in
+    let passed : accepted c.args.s ≡ true = sym c.accepted.ensures ∙ c.if-not-accepted.false in
     let none : c.sources-p.result - k_of c.args.s ≡ 0 = omega arith in
     let h : Shape c.args.s = shape c.args.s (subst⁻¹ T (passed) tt) in
     (h, omega arith, omega arith, rw none refl, rw none refl)
@@ -62,7 +62,7 @@ loop-p-preserved c =
 
 pub returns : goal.returns
 returns c =
-    let passed : accepted c.args.s ≡ true = sym c.accepted.ensures ∙ not-false c.accepted.result c.if-not-accepted.false in
+    let passed : accepted c.args.s ≡ true = sym c.accepted.ensures ∙ c.if-not-accepted.false in
     let x : Reduced = both c.args.matrix c.args.roles.now in
     let all : c.loop-p.p - k_of c.args.s ≡ c.args.s.burst = omega (arith, c.loop-p.invariant.0.symbols) in (
       c.loop-p.invariant.3 ∙ ap (columns c.args.s (known_in c.args.s c.args.flags.now) x) all

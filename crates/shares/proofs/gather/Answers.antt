@@ -46,7 +46,6 @@ source-second-requires c =
 
 pub pair_up-requires : goal.pair_up-requires
 pair_up-requires c =
-    let at-loop : tie.At-loop invariant-loop decreases-loop = c in
     let within : (x : Source) (r : ℕ) → x ≡ source_of start.args.s start.args.roles.now start.args.places.now r
     → x.start + start.args.s.lanes ≤ length start.args.bytes.now = λ x r is. let a = start.args in
     subst⁻¹ (λ (x : Source). x.start + a.s.lanes ≤ length a.bytes.now) is
@@ -56,7 +55,7 @@ pair_up-requires c =
     subst⁻¹ Wide at-loop.loop.inv.2
     (gathered_wide a.bytes.now a.s.lanes (source_of a.s a.roles.now a.places.now) a.pairs.now h.lanes_few
     start.pre.2 at-loop.loop.j (omega arith)) in
-    let h = (at-loop).loop.invariant.0 in (
+    let h = ((c)).loop.invariant.0 in (
       omega arith,
       h.lanes_few,
       within c.source-first.result _ c.source-first.ensures,
@@ -66,15 +65,12 @@ pair_up-requires c =
 
 pub overflow_add-j-in-loop-j : goal.overflow_add-j-in-loop-j
 overflow_add-j-in-loop-j c =
-    let at-loop : tie.At-loop invariant-loop decreases-loop = c in
-    let h = (at-loop).loop.inv.0 in omega arith
+    let h = ((c)).loop.inv.0 in omega arith
 
 pub loop-j-preserved : goal.loop-j-preserved
 loop-j-preserved c =
-    let start : tie.Start invariant-loop decreases-loop = at-loop.before.before.before.before in
-    let at-loop : tie.At-loop invariant-loop decreases-loop = c in
-    let a = (start).args in
-    let loop = (at-loop).loop in (
+    let a = ((at-loop.before.before.before.before)).args in
+    let loop = ((c)).loop in (
       loop.inv.0,
       omega arith,
       c.pair_up.ensures

@@ -19,29 +19,26 @@ bounds-roles-r c =
 
 pub offset_bounds-places-p : goal.offset_bounds-places-p
 offset_bounds-places-p c =
-    let start : tie.Start = c in
-    let position : c.wide-p.result < 16 = let from = start in
+    let position : c.wide-p.result < 16 = let from = (c) in
     let h = shape from.args.s from.pre.0 in
     omega arith in
     omega (arith, position)
 
 pub bounds-places-p : goal.bounds-places-p
 bounds-places-p c =
-    let start : tie.Start = c in
-    let position : c.wide-p.result < 16 = let from = start in
+    let position : c.wide-p.result < 16 = let from = (c) in
     let h = shape from.args.s from.pre.0 in
     omega arith in
     position
 
 pub returns-then-p-symbols : goal.returns-then-p-symbols
 returns-then-p-symbols c =
-    let start : tie.Start = c in
     let few : c.args.r < 16 = let h = shape c.args.s c.requires.0 in
     omega arith in
     let role : c.wide-p.result ≡ role_of start.args.s start.args.roles.now start.args.r = let a = start.args in
     c.wide-p.ensures ∙ get_d_default a.roles.now a.r 0 16 (omega (arith, few))
     ∙ role_row a.s a.roles.now a.r (omega arith) in
-    let a = (start).args in
+    let a = ((c)).args in
     source_inside a.s a.places.now c.wide-p.result (omega arith) ∙ ap (source_at a.s a.places.now) (role)
 
 pub returns : goal.returns

@@ -10,4 +10,4 @@ slice_bounds-write_at-end c =
 
 pub returns-then-taken : goal.returns-then-taken
 returns-then-taken c =
-    rw c.if-taken.true (c.write_at.ensures ∙ written_whole c.args.t2 c.args.state.now (sym (c.requires ∙ sized c)))
+    rw c.if-taken.true (c.write_at.ensures ∙ written_whole c.args.bytes c.args.state.now (sym (c.requires ∙ sized c)))

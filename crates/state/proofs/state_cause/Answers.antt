@@ -17,7 +17,7 @@ unfolding state_cause
 returns-then-not-is_marked c =
     rw (
       eq-eqb (length c.args.state.now) state_len (omega (arith, c)),
-      sym c.is_marked.ensures ∙ not-true c.is_marked.result c.if-not-is_marked.true,
+      sym c.is_marked.ensures ∙ c.if-not-is_marked.true,
     )
 
 pub returns : goal.returns
@@ -25,5 +25,5 @@ unfolding state_cause
 returns c =
     rw (
       eq-eqb (length c.args.state.now) state_len (omega (arith, c)),
-      sym c.is_marked.ensures ∙ not-false c.is_marked.result c.if-not-is_marked.false,
+      sym c.is_marked.ensures ∙ c.if-not-is_marked.false,
     )

@@ -19,21 +19,17 @@ stopped-requires c =
 
 pub slice_bounds-at_frame-start : goal.slice_bounds-at_frame-start
 slice_bounds-at_frame-start c =
-    let first : ℕ = c.in-Frame.start in
-    let past : ℕ = c.in-Frame.end in
     let found : c.next_frame.result ≡ found_at c.args.recording.now c.args.p.offset (frame_len c.args.p.receiver.settings) = c.next_frame.ensures ∙ ap (found_at c.args.recording.now c.args.p.offset) c.frame_len.ensures in
     let said : let size = frame_len c.args.p.receiver.settings in
-    (first ≡ c.args.p.offset) × (past ≡ c.args.p.offset + size) × (c.args.p.offset + size ≤ length c.args.recording.now) × (0 < size) = frame_says c.args.recording.now c.args.p.offset (frame_len c.args.p.receiver.settings) first past
+    (c.in-Frame.start ≡ c.args.p.offset) × (c.in-Frame.end ≡ c.args.p.offset + size) × (c.args.p.offset + size ≤ length c.args.recording.now) × (0 < size) = frame_says c.args.recording.now c.args.p.offset (frame_len c.args.p.receiver.settings) c.in-Frame.start c.in-Frame.end
     (sym (found) ∙ c.in-Frame.is) in
     omega (arith, said)
 
 pub slice_bounds-at_frame-end : goal.slice_bounds-at_frame-end
 slice_bounds-at_frame-end c =
-    let first : ℕ = c.in-Frame.start in
-    let past : ℕ = c.in-Frame.end in
     let found : c.next_frame.result ≡ found_at c.args.recording.now c.args.p.offset (frame_len c.args.p.receiver.settings) = c.next_frame.ensures ∙ ap (found_at c.args.recording.now c.args.p.offset) c.frame_len.ensures in
     let said : let size = frame_len c.args.p.receiver.settings in
-    (first ≡ c.args.p.offset) × (past ≡ c.args.p.offset + size) × (c.args.p.offset + size ≤ length c.args.recording.now) × (0 < size) = frame_says c.args.recording.now c.args.p.offset (frame_len c.args.p.receiver.settings) first past
+    (c.in-Frame.start ≡ c.args.p.offset) × (c.in-Frame.end ≡ c.args.p.offset + size) × (c.args.p.offset + size ≤ length c.args.recording.now) × (0 < size) = frame_says c.args.recording.now c.args.p.offset (frame_len c.args.p.receiver.settings) c.in-Frame.start c.in-Frame.end
     (sym (found) ∙ c.in-Frame.is) in
     omega (arith, said)
 
@@ -42,12 +38,10 @@ unfolding frame_len
 at_frame-requires c =
     let found : c.next_frame.result ≡ found_at c.args.recording.now c.args.p.offset (frame_len c.args.p.receiver.settings) = c.next_frame.ensures ∙ ap (found_at c.args.recording.now c.args.p.offset) c.frame_len.ensures in
     let said : let size = frame_len c.args.p.receiver.settings in
-    (first ≡ c.args.p.offset) × (past ≡ c.args.p.offset + size) × (c.args.p.offset + size ≤ length c.args.recording.now) × (0 < size) = frame_says c.args.recording.now c.args.p.offset (frame_len c.args.p.receiver.settings) first past
+    (c.in-Frame.start ≡ c.args.p.offset) × (c.in-Frame.end ≡ c.args.p.offset + size) × (c.args.p.offset + size ≤ length c.args.recording.now) × (0 < size) = frame_says c.args.recording.now c.args.p.offset (frame_len c.args.p.receiver.settings) c.in-Frame.start c.in-Frame.end
     (sym (found) ∙ c.in-Frame.is) in
-    let past : ℕ = c.in-Frame.end in
-    let first : ℕ = c.in-Frame.start in
     (
-      omega (arith, said, length-take (past - first) (drop (first) c.args.recording.now), length-drop (first) c.args.recording.now),
+      omega (arith, said, length-take (c.in-Frame.end - c.in-Frame.start) (drop (c.in-Frame.start) c.args.recording.now), length-drop (c.in-Frame.start) c.args.recording.now),
       c.requires,
     )
 
@@ -84,10 +78,8 @@ shape_of-line-in-Frame c =
 
 pub returns-in-Frame : goal.returns-in-Frame
 returns-in-Frame c =
-    let first : ℕ = c.in-Frame.start in
-    let past : ℕ = c.in-Frame.end in
     let found : c.next_frame.result ≡ found_at c.args.recording.now c.args.p.offset (frame_len c.args.p.receiver.settings) = c.next_frame.ensures ∙ ap (found_at c.args.recording.now c.args.p.offset) c.frame_len.ensures in
     c.at_frame.ensures
     ∙ ap (printed_on c.args.line.now)
-    (stands c.args.p c.args.recording.now c.args.rows.now c.args.message.now (first) (past)
+    (stands c.args.p c.args.recording.now c.args.rows.now c.args.message.now (c.in-Frame.start) (c.in-Frame.end)
     (sym (found) ∙ c.in-Frame.is))

@@ -8,9 +8,9 @@ use Rattle.buffers.proofs.exact.exactly_framed.Goals as goal
 
 pub returns-then-not-exactly : goal.returns-then-not-exactly
 returns-then-not-exactly c =
-    rw (sym c.exactly.ensures ∙ not-true c.exactly.result c.if-not-exactly.true)
+    rw (sym c.exactly.ensures ∙ c.if-not-exactly.true)
 
 pub returns : goal.returns
 returns c =
-    rw (sym c.exactly.ensures ∙ not-false c.exactly.result c.if-not-exactly.false)
+    rw (sym c.exactly.ensures ∙ c.if-not-exactly.false)
     (ap (λ (n : ℕ). eqb c.args.frame n) c.frame_len.ensures)

@@ -45,9 +45,7 @@ returns-then-number-lt0 c =
 pub returns-else-number-lt0 : goal.returns-else-number-lt0
 unfolding out_of_reach
 returns-else-number-lt0 c =
-    let due : ℕ = c.args.due in
-    let number : ℤ = c.args.number in
-    let slot : to_z w64 due ≡ pos due = to_z_pos w64 due (omega arith) in
-    let read : to_z w64 (of_z w64 number) ≡ number = to_z-of_z w64 number c.ranges.number in
-    let third : le_z (to_z w64 due) (to_z w64 (of_z w64 number)) ≡ le_z (pos due) number = ap₂ le_z slot read in
+    let slot : to_z w64 c.args.due ≡ pos c.args.due = to_z_pos w64 c.args.due (omega arith) in
+    let read : to_z w64 (of_z w64 c.args.number) ≡ c.args.number = to_z-of_z w64 c.args.number c.ranges.number in
+    let third : le_z (to_z w64 c.args.due) (to_z w64 (of_z w64 c.args.number)) ≡ le_z (pos c.args.due) c.args.number = ap₂ le_z slot read in
     rw (sym (flagged c), c.if-number-lt0.false, third)

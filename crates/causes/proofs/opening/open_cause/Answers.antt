@@ -11,16 +11,16 @@ use Rattle.causes.proofs.opening.open_cause.Goals as goal
 pub returns-then-not-accepted : goal.returns-then-not-accepted
 unfolding open_cause
 returns-then-not-accepted c =
-    rw (sym c.accepted.ensures ∙ not-true c.accepted.result c.if-not-accepted.true)
+    rw (sym c.accepted.ensures ∙ c.if-not-accepted.true)
 
 pub returns-then-rows-size : goal.returns-then-rows-size
 unfolding open_cause
 returns-then-rows-size c =
-    let settled : accepted c.args.s ≡ true = sym c.accepted.ensures ∙ not-false c.accepted.result c.if-not-accepted.false in
+    let settled : accepted c.args.s ≡ true = sym c.accepted.ensures ∙ c.if-not-accepted.false in
     rw (settled, ne_eqb (length c.args.rows.now) c.args.size c.if-rows-size.true)
 
 pub returns : goal.returns
 unfolding open_cause
 returns c =
-    let settled : accepted c.args.s ≡ true = sym c.accepted.ensures ∙ not-false c.accepted.result c.if-not-accepted.false in
+    let settled : accepted c.args.s ≡ true = sym c.accepted.ensures ∙ c.if-not-accepted.false in
     rw (settled, eq-eqb (length c.args.rows.now) c.args.size c.if-rows-size.false)

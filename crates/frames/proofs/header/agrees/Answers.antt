@@ -18,14 +18,14 @@ loop-i-init c =
 
 pub returns-then-frame-i : goal.returns-then-frame-i
 returns-then-frame-i c =
-    let test : ℕ → Bool = λ j. eqb (get_or c.args.frame.now (c.args.first + j) 0) (get_or c.args.t2 (c.args.first + j) 0) in
+    let test : ℕ → Bool = λ j. eqb (get_or c.args.frame.now (c.args.first + j) 0) (get_or c.args.head (c.args.first + j) 0) in
     sym
     (is_false (every (c.args.end - c.args.first) test)
     (λ t.
     let same = eqb→eq _ _ (at (c.args.end - c.args.first) test t (c.loop-i.i - c.args.first) (omega arith)) in
     let place : c.args.first + (c.loop-i.i - c.args.first) ≡ c.loop-i.i = omega arith in
-    let e : get_or c.args.frame.now c.loop-i.i 0 ≡ get_or c.args.t2 c.loop-i.i 0 =
-    subst (λ (k : ℕ). get_or c.args.frame.now k 0 ≡ get_or c.args.t2 k 0) place same in
+    let e : get_or c.args.frame.now c.loop-i.i 0 ≡ get_or c.args.head c.loop-i.i 0 =
+    subst (λ (k : ℕ). get_or c.args.frame.now k 0 ≡ get_or c.args.head k 0) place same in
     omega arith))
 
 pub loop-i-preserved : goal.loop-i-preserved
@@ -37,13 +37,13 @@ loop-i-preserved c =
           let upto : c.args.first + j ≤ c.loop-i.i = omega arith in
           ⊎_elim
           (λ same. let here : c.loop-i.i ≡ c.args.first + j = omega arith in
-          subst (λ (k : ℕ). get_or c.args.frame.now k 0 ≡ get_or c.args.t2 k 0) here (omega arith))
+          subst (λ (k : ℕ). get_or c.args.frame.now k 0 ≡ get_or c.args.head k 0) here (omega arith))
           (λ less. c.loop-i.invariant.2 j less) (eq-or-lt_of_le upto),
     )
 
 pub returns : goal.returns
 returns c =
-    let test : ℕ → Bool = λ j. eqb (get_or c.args.frame.now (c.args.first + j) 0) (get_or c.args.t2 (c.args.first + j) 0) in
+    let test : ℕ → Bool = λ j. eqb (get_or c.args.frame.now (c.args.first + j) 0) (get_or c.args.head (c.args.first + j) 0) in
     sym
     (is_true (every (c.args.end - c.args.first) test)
     (all-below (c.args.end - c.args.first) test (λ j h. subst⁻¹ T (eq-eqb _ _ (c.loop-i.invariant.2 j (omega arith))) tt)))

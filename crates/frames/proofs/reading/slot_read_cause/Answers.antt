@@ -22,11 +22,11 @@ unfolding slot_read_cause
 returns-then-not-agrees c =
     let enough : ltb (length c.args.frame.now) 14 ≡ false = le-ltb (length c.args.frame.now) 14 (omega (arith, c)) in
     let marked : c.agrees.result ≡ agree 5 c.args.frame.now (mark 1) = c.agrees.ensures ∙ mark_test 1 c.settings_at.result 0 c.args.frame.now _ c.header_bytes-head.ensures in
-    rw (enough, sym (marked) ∙ not-true c.agrees.result c.if-not-agrees.true)
+    rw (enough, sym (marked) ∙ c.if-not-agrees.true)
 
 pub returns : goal.returns
 unfolding slot_read_cause
 returns c =
     let enough : ltb (length c.args.frame.now) 14 ≡ false = le-ltb (length c.args.frame.now) 14 (omega (arith, c)) in
     let marked : c.agrees.result ≡ agree 5 c.args.frame.now (mark 1) = c.agrees.ensures ∙ mark_test 1 c.settings_at.result 0 c.args.frame.now _ c.header_bytes-head.ensures in
-    rw (enough, sym (marked) ∙ not-false c.agrees.result c.if-not-agrees.false)
+    rw (enough, sym (marked) ∙ c.if-not-agrees.false)

@@ -32,43 +32,27 @@ write_at-requires-2 c =
 
 pub slice_bounds-write_parities-count : goal.slice_bounds-write_parities-count
 slice_bounds-write_parities-count c =
-    let frame : List ℕ = second.write-at2.last.0 in
-    let start : ℕ = 14 + length from.args.message.now in
-    let first : tie.After-write-at = second.before.before.before.before in
-    let from : tie.Start = begun (headed first) in
-    let room : length frame ≡ start + from.args.s.burst * from.args.s.lanes = omega (arith, second.write-at2.kept.0, first.write-at.kept.0, lengths from) in
+    let room : length (second.write-at2.last.0) ≡ (14 + length from.args.message.now) + from.args.s.burst * from.args.s.lanes = omega (arith, second.write-at2.kept.0, first.write-at.kept.0, lengths (begun (headed (second.before.before.before.before)))) in
     omega (arith, room)
 
 pub slice_bounds-write_parities-start : goal.slice_bounds-write_parities-start
 slice_bounds-write_parities-start c =
-    let frame : List ℕ = second.write-at2.last.0 in
-    let start : ℕ = 14 + length from.args.message.now in
-    let first : tie.After-write-at = second.before.before.before.before in
-    let from : tie.Start = begun (headed first) in
-    let room : length frame ≡ start + from.args.s.burst * from.args.s.lanes = omega (arith, second.write-at2.kept.0, first.write-at.kept.0, lengths from) in
+    let room : length (second.write-at2.last.0) ≡ (14 + length from.args.message.now) + from.args.s.burst * from.args.s.lanes = omega (arith, second.write-at2.kept.0, first.write-at.kept.0, lengths (begun (headed (second.before.before.before.before)))) in
     omega (arith, room)
 
 pub write_parities-requires : goal.write_parities-requires
 write_parities-requires c =
-    let first : tie.After-write-at = second.before.before.before.before in
-    let from : tie.Start = begun (headed first) in
-    let start : ℕ = 14 + length from.args.message.now in
-    let frame : List ℕ = second.write-at2.last.0 in
-    let room : length frame ≡ start + from.args.s.burst * from.args.s.lanes = omega (arith, second.write-at2.kept.0, first.write-at.kept.0, lengths from) in
-    let pre = (from).requires in
-    (pre.0, pre.1, mid_len (start) (length (frame)) (frame) (le_refl (length (frame))) ∙ omega (arith, room))
+    let room : length (second.write-at2.last.0) ≡ (14 + length from.args.message.now) + from.args.s.burst * from.args.s.lanes = omega (arith, second.write-at2.kept.0, first.write-at.kept.0, lengths (begun (headed (second.before.before.before.before)))) in
+    let pre = ((begun (headed (second.before.before.before.before)))).requires in
+    (pre.0, pre.1, mid_len ((14 + length from.args.message.now)) (length ((second.write-at2.last.0))) ((second.write-at2.last.0)) (le_refl (length ((second.write-at2.last.0)))) ∙ omega (arith, room))
 
 pub returns : goal.returns
 unfolding frame_of
 returns c =
-    let first : tie.After-write-at = second.before.before.before.before in
-    let from : tie.Start = begun (headed first) in
-    let frame : List ℕ = second.write-at2.last.0 in
-    let second : tie.After-write-at2 = c in
-    let made = headed (first) in
-    let a = (from).args in
+    let made = headed ((second.before.before.before.before)) in
+    let a = ((begun (headed (second.before.before.before.before)))).args in
     let message : List ℕ = a.message.now in
-    three_written a.frame.now made.header-bytes.result message (first).write-at.new.0 (frame) c.write_parities.new.out
-    (fourteen made) (first).write-at.ensures (second).write-at2.ensures
+    three_written a.frame.now made.header-bytes.result message ((second.before.before.before.before)).write-at.new.0 ((second.write-at2.last.0)) c.write_parities.new.out
+    (fourteen made) ((second.before.before.before.before)).write-at.ensures ((c)).write-at2.ensures
     ∙ ap₂ (λ (head rest : List ℕ). head ++ (message ++ rest)) made.header-bytes.ensures c.write_parities.ensures
-    ∙ ap (λ (body : List ℕ). header a.version a.s a.due ++ body) (body_split a.s a.rows.now message a.due (shape a.s (from).requires.0) (from).requires.2)
+    ∙ ap (λ (body : List ℕ). header a.version a.s a.due ++ body) (body_split a.s a.rows.now message a.due (shape a.s ((begun (headed (second.before.before.before.before)))).requires.0) ((begun (headed (second.before.before.before.before)))).requires.2)

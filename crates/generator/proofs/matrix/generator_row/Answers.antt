@@ -52,3 +52,7 @@ loop-j-preserved c =
 pub returns : goal.returns
 returns c =
     is_table 16 (entry c.args.s c.args.row) 0 c.loop-j.entries c.loop-j.invariant.1 (λ i h. c.loop-j.invariant.2 i (omega arith))
+
+pub overflow_cast-sources : goal.overflow_cast-sources
+unfolding k_of delay_of
+overflow_cast-sources c = search rules

@@ -1,5 +1,5 @@
 -- Each turn compares one part, and the rest lies in one or two more.
-use borrow.Author.Tests.{not-true, not-false}
+use borrow.Author.Tests.{not_true, not-false}
 use mathlib.Core.Path.{◌≡◌, refl, sym, ap₂, ◌∙◌}
 use mathlib.Core.Bool.{◌&&◌}
 use mathlib.Core.List.{List}
@@ -23,11 +23,9 @@ same_part-requires c =
 
 pub returns-then-not-same_part : goal.returns-then-not-same_part
 returns-then-not-same_part c =
-    let one : List ℕ = c.args.a.now in
-    let two : List ℕ = c.args.b.now in
     sym
-    (part_differs (one) (two) (length (one)) c.loop-k.k 32 (omega (arith, c.loop-k-test.true))
-    (sym c.same_part.ensures ∙ not-true c.same_part.result c.if-not-same_part.true))
+    (part_differs (c.args.a.now) (c.args.b.now) (length (c.args.a.now)) c.loop-k.k 32 (omega (arith, c.loop-k-test.true))
+    (sym c.same_part.ensures ∙ not_true c.same_part.result c.if-not-same_part.true))
 
 pub overflow_add-k : goal.overflow_add-k
 overflow_add-k c =
@@ -39,13 +37,11 @@ loop-k-smaller c =
 
 pub loop-k-preserved : goal.loop-k-preserved
 loop-k-preserved c =
-    let one : List ℕ = c.args.a.now in
-    let two : List ℕ = c.args.b.now in
     (
       omega (arith, c.loop-k-test.true),
       c.loop-k.invariant.1,
-      further (one) (two) c.loop-k.k 32 c.loop-k.invariant.2
-          (sym c.same_part.ensures ∙ not-false c.same_part.result c.if-not-same_part.false),
+      further (c.args.a.now) (c.args.b.now) c.loop-k.k 32 c.loop-k.invariant.2
+          (sym c.same_part.ensures ∙ c.if-not-same_part.false),
     )
 
 pub overflow_sub-end-2 : goal.overflow_sub-end-2
@@ -62,10 +58,8 @@ same_part-requires-then-end-k-lt16 c =
 
 pub returns-then-end-k-lt16 : goal.returns-then-end-k-lt16
 returns-then-end-k-lt16 c =
-    let one : List ℕ = c.args.a.now in
-    let two : List ℕ = c.args.b.now in
     c.same_part-then-end-k-lt16.ensures
-    ∙ last_part (one) (two) (length (one)) c.loop-k.k c.requires.0 (omega (arith, c.if-end-k-lt16.true)) c.loop-k.invariant.2
+    ∙ last_part (c.args.a.now) (c.args.b.now) (length (c.args.a.now)) c.loop-k.k c.requires.0 (omega (arith, c.if-end-k-lt16.true)) c.loop-k.invariant.2
 
 pub same_part-requires-2 : goal.same_part-requires-2
 same_part-requires-2 c =
@@ -81,8 +75,6 @@ same_part-requires-3 c =
 
 pub returns : goal.returns
 returns c =
-    let one : List ℕ = c.args.a.now in
-    let two : List ℕ = c.args.b.now in
     ap₂ ◌&&◌ c.same_part-2.ensures c.same_part-3.ensures
-    ∙ two_parts (one) (two) (length (one)) c.loop-k.k (omega (arith, c.if-end-k-lt16.false))
+    ∙ two_parts (c.args.a.now) (c.args.b.now) (length (c.args.a.now)) c.loop-k.k (omega (arith, c.if-end-k-lt16.false))
     (omega (arith, c.loop-k-test.false)) c.loop-k.invariant.2

@@ -26,19 +26,19 @@ three_by e f g = rw (e, f, g)
 pub returns-then-not-accepted : goal.returns-then-not-accepted
 unfolding pair_cause
 returns-then-not-accepted c =
-    rw (sym c.accepted.ensures ∙ not-true c.accepted.result c.if-not-accepted.true)
+    rw (sym c.accepted.ensures ∙ c.if-not-accepted.true)
 
 pub returns-then-unfit : goal.returns-then-unfit
 unfolding pair_cause
 returns-then-unfit c =
-    let settled : accepted c.args.s ≡ true = sym c.accepted.ensures ∙ not-false c.accepted.result c.if-not-accepted.false in
+    let settled : accepted c.args.s ≡ true = sym c.accepted.ensures ∙ c.if-not-accepted.false in
     let lengths : (c.unfit.result || c.unfit-2.result) ≡ (unfit c.args.s c.args.first.now || unfit c.args.s c.args.second.now) = ap₂ ◌||◌ c.unfit.ensures c.unfit-2.ensures in
     rw (settled, sym (lengths) ∙ c.if-unfit.true)
 
 pub returns-then-found-ne0 : goal.returns-then-found-ne0
 unfolding pair_cause
 returns-then-found-ne0 c =
-    let settled : accepted c.args.s ≡ true = sym c.accepted.ensures ∙ not-false c.accepted.result c.if-not-accepted.false in
+    let settled : accepted c.args.s ≡ true = sym c.accepted.ensures ∙ c.if-not-accepted.false in
     let lengths : (c.unfit.result || c.unfit-2.result) ≡ (unfit c.args.s c.args.first.now || unfit c.args.s c.args.second.now) = ap₂ ◌||◌ c.unfit.ensures c.unfit-2.ensures in
     let fitting : (unfit c.args.s c.args.first.now || unfit c.args.s c.args.second.now) ≡ false = sym (lengths) ∙ c.if-unfit.false in
     let met : c.frame_cause-found.result ≡ three (marks c) (settings c) (slots c) 0 = c.frame_cause-found.ensures ∙ three_by (ap₂ ◌||◌ c.walk.ensures.0 c.walk-2.ensures.0) (ap₂ ◌||◌ c.walk.ensures.1.0 c.walk-2.ensures.1.0) (ap₂ ◌||◌ c.walk.ensures.1.1 c.walk-2.ensures.1.1) in
@@ -50,7 +50,7 @@ pub unlike-requires : goal.unlike-requires
 unlike-requires c =
     let met : c.frame_cause-found.result ≡ three (marks c) (settings c) (slots c) 0 = c.frame_cause-found.ensures ∙ three_by (ap₂ ◌||◌ c.walk.ensures.0 c.walk-2.ensures.0) (ap₂ ◌||◌ c.walk.ensures.1.0 c.walk-2.ensures.1.0) (ap₂ ◌||◌ c.walk.ensures.1.1 c.walk-2.ensures.1.1) in
     let clear-frames : (marks c ≡ false) × (settings c ≡ false) × (slots c ≡ false) = none_of_three (marks c) (settings c) (slots c) (sym (met) ∙ omega (arith, c.if-found-ne0.false)) in
-    let settled : accepted c.args.s ≡ true = sym c.accepted.ensures ∙ not-false c.accepted.result c.if-not-accepted.false in
+    let settled : accepted c.args.s ≡ true = sym c.accepted.ensures ∙ c.if-not-accepted.false in
     let rise = neither (falling c.args.s c.args.first.now) (falling c.args.s c.args.second.now) (clear-frames).2 in
     (rw (settled) tt, rising c.args.s c.args.first.now rise.0, rising c.args.s c.args.second.now rise.1)
 
@@ -59,7 +59,7 @@ unfolding pair_cause
 returns-then-unlike c =
     let met : c.frame_cause-found.result ≡ three (marks c) (settings c) (slots c) 0 = c.frame_cause-found.ensures ∙ three_by (ap₂ ◌||◌ c.walk.ensures.0 c.walk-2.ensures.0) (ap₂ ◌||◌ c.walk.ensures.1.0 c.walk-2.ensures.1.0) (ap₂ ◌||◌ c.walk.ensures.1.1 c.walk-2.ensures.1.1) in
     let clear-frames : (marks c ≡ false) × (settings c ≡ false) × (slots c ≡ false) = none_of_three (marks c) (settings c) (slots c) (sym (met) ∙ omega (arith, c.if-found-ne0.false)) in
-    let settled : accepted c.args.s ≡ true = sym c.accepted.ensures ∙ not-false c.accepted.result c.if-not-accepted.false in
+    let settled : accepted c.args.s ≡ true = sym c.accepted.ensures ∙ c.if-not-accepted.false in
     let lengths : (c.unfit.result || c.unfit-2.result) ≡ (unfit c.args.s c.args.first.now || unfit c.args.s c.args.second.now) = ap₂ ◌||◌ c.unfit.ensures c.unfit-2.ensures in
     let fitting : (unfit c.args.s c.args.first.now || unfit c.args.s c.args.second.now) ≡ false = sym (lengths) ∙ c.if-unfit.false in
     let frames = clear-frames in
@@ -70,7 +70,7 @@ unfolding pair_cause
 returns c =
     let met : c.frame_cause-found.result ≡ three (marks c) (settings c) (slots c) 0 = c.frame_cause-found.ensures ∙ three_by (ap₂ ◌||◌ c.walk.ensures.0 c.walk-2.ensures.0) (ap₂ ◌||◌ c.walk.ensures.1.0 c.walk-2.ensures.1.0) (ap₂ ◌||◌ c.walk.ensures.1.1 c.walk-2.ensures.1.1) in
     let clear-frames : (marks c ≡ false) × (settings c ≡ false) × (slots c ≡ false) = none_of_three (marks c) (settings c) (slots c) (sym (met) ∙ omega (arith, c.if-found-ne0.false)) in
-    let settled : accepted c.args.s ≡ true = sym c.accepted.ensures ∙ not-false c.accepted.result c.if-not-accepted.false in
+    let settled : accepted c.args.s ≡ true = sym c.accepted.ensures ∙ c.if-not-accepted.false in
     let lengths : (c.unfit.result || c.unfit-2.result) ≡ (unfit c.args.s c.args.first.now || unfit c.args.s c.args.second.now) = ap₂ ◌||◌ c.unfit.ensures c.unfit-2.ensures in
     let fitting : (unfit c.args.s c.args.first.now || unfit c.args.s c.args.second.now) ≡ false = sym (lengths) ∙ c.if-unfit.false in
     let frames = clear-frames in

@@ -124,7 +124,7 @@ returns-then-not-alike c =
     c.alike.ensures ∙ alike_by _ _ _ _ _ _ size c.frame_of-a.ensures.bytes c.frame_of-b.ensures.bytes in
     sym
     (one_unlike c.args.s c.args.first.now c.args.second.now c.loop-i.i c.loop-i.j (in-first) (in-second) (same_slot)
-    (sym (compared) ∙ not-true c.alike.result c.if-not-alike.true))
+    (sym (compared) ∙ c.if-not-alike.true))
 
 pub overflow_add-i-else-y-x : goal.overflow_add-i-else-y-x
 overflow_add-i-else-y-x c =
@@ -156,7 +156,7 @@ loop-i-preserved c =
     ≡ slot_of c.args.s c.args.second.now c.loop-i.j = omega (arith, first_slot, second_slot, c.if-x-y.false, c.if-y-x.false) in
     let next-i : c.loop-i.i + 1 ≡ suc c.loop-i.i = omega arith in
     let next-j : c.loop-i.j + 1 ≡ suc c.loop-i.j = omega arith in
-    let equal = sym (compared) ∙ not-false c.alike.result c.if-not-alike.false in (
+    let equal = sym (compared) ∙ c.if-not-alike.false in (
       omega (arith, in-first, c.loop-i.invariant.2),
       omega (arith, in-second, c.loop-i.invariant.3),
       c.loop-i.invariant.2,

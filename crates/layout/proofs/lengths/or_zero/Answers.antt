@@ -6,8 +6,8 @@ use Rattle.layout.proofs.lengths.or_zero.Goals as goal
 
 pub returns-then-not-accepted : goal.returns-then-not-accepted
 returns-then-not-accepted c =
-    rw (sym c.accepted.ensures ∙ not-true c.accepted.result c.if-not-accepted.true)
+    rw (sym c.accepted.ensures ∙ c.if-not-accepted.true)
 
 pub returns : goal.returns
 returns c =
-    rw (sym c.accepted.ensures ∙ not-false c.accepted.result c.if-not-accepted.false)
+    rw (sym c.accepted.ensures ∙ c.if-not-accepted.false)

@@ -23,12 +23,12 @@ loop-j-preserved c =
     let digits = c.sum-digits.ensures ∙ ap (λ (y : ℕ). y ⊕ part (12 + c.args.c / 64 % 4)) two in (
       omega arith,
       simp length-set c.loop-j.invariant.1,
-      filled_more (λ i. get_or c.args.t1 i 0 ⊕ digits_at c.args.parts.now c.args.c i) 0 c.loop-j.out c.loop-j.j _ (omega arith)
-          (c.sum-in-loop-j-2.ensures ∙ ap (λ (y : ℕ). get_or c.args.t1 c.loop-j.j 0 ⊕ y) digits) c.loop-j.invariant.2,
+      filled_more (λ i. get_or c.args.row i 0 ⊕ digits_at c.args.parts.now c.args.c i) 0 c.loop-j.out c.loop-j.j _ (omega arith)
+          (c.sum-in-loop-j-2.ensures ∙ ap (λ (y : ℕ). get_or c.args.row c.loop-j.j 0 ⊕ y) digits) c.loop-j.invariant.2,
     )
 
 pub returns : goal.returns
 unfolding row_by
 returns c =
-    is_table 16 (λ j. get_or c.args.t1 j 0 ⊕ digits_at c.args.parts.now c.args.c j) 0 c.loop-j.out c.loop-j.invariant.1
+    is_table 16 (λ j. get_or c.args.row j 0 ⊕ digits_at c.args.parts.now c.args.c j) 0 c.loop-j.out c.loop-j.invariant.1
     (λ i h. c.loop-j.invariant.2 i (omega arith))

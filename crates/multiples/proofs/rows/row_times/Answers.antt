@@ -18,9 +18,9 @@ loop-j-preserved c =
     (
       omega arith,
       simp length-set c.loop-j.invariant.1,
-      filled_more (λ i. c.args.c ⊗ get_or c.args.t1 i 0) 0 c.loop-j.out c.loop-j.j _ (omega arith) c.product.ensures c.loop-j.invariant.2,
+      filled_more (λ i. c.args.c ⊗ get_or c.args.row i 0) 0 c.loop-j.out c.loop-j.j _ (omega arith) c.product.ensures c.loop-j.invariant.2,
     )
 
 pub returns : goal.returns
 returns c =
-    is_table 16 (λ j. c.args.c ⊗ get_or c.args.t1 j 0) 0 c.loop-j.out c.loop-j.invariant.1 (λ i h. c.loop-j.invariant.2 i (omega arith))
+    is_table 16 (λ j. c.args.c ⊗ get_or c.args.row j 0) 0 c.loop-j.out c.loop-j.invariant.1 (λ i h. c.loop-j.invariant.2 i (omega arith))

@@ -53,56 +53,49 @@ overflow_mul-j c =
 
 pub next_row-next-requires : goal.next_row-next-requires
 next_row-next-requires c =
-    let row_within : at-loop.loop.row < n_of (start entered).args.s - 1 = let a = (start entered).args in
-    omega (arith, at-loop.loop.inv.1, row_below a.s a.due a.p (at-loop.loop.j * 2) (some_rows entered).0) in
-    let entered : tie.After-symbols invariant-loop decreases-loop = at-loop.before in
-    omega (arith, row_within, (entered).symbols.ensures)
+    let row_within : at-loop.loop.row < n_of (start (at-loop.before)).args.s - 1 = let a = (start (at-loop.before)).args in
+    omega (arith, at-loop.loop.inv.1, row_below a.s a.due a.p (at-loop.loop.j * 2) (some_rows (at-loop.before)).0) in
+    omega (arith, row_within, ((at-loop.before)).symbols.ensures)
 
 pub overflow_mul-j-in-loop-j : goal.overflow_mul-j-in-loop-j
 overflow_mul-j-in-loop-j c =
-    let taken : tie.Then1 invariant-loop decreases-loop = c in
-    omega (arith, few (at-loop (taken)))
+    omega (arith, few (at-loop ((c))))
 
 pub source-first-requires : goal.source-first-requires
 source-first-requires c =
-    let taken : tie.Then1 invariant-loop decreases-loop = c in
-    ((start (entered (taken))).pre.0, row_within (taken))
+    ((start (entered ((c)))).pre.0, row_within ((c)))
 
 pub overflow_mul-j-in-loop-j-2 : goal.overflow_mul-j-in-loop-j-2
 overflow_mul-j-in-loop-j-2 c =
-    let taken : tie.Then1 invariant-loop decreases-loop = c in
-    omega (arith, few (at-loop (taken)))
+    omega (arith, few (at-loop ((c))))
 
 pub overflow_add-j : goal.overflow_add-j
 overflow_add-j c =
-    let taken : tie.Then1 invariant-loop decreases-loop = c in
-    omega (arith, few (at-loop (taken)))
+    omega (arith, few (at-loop ((c))))
 
 pub source-second-requires : goal.source-second-requires
 source-second-requires c =
-    let taken : tie.Then1 invariant-loop decreases-loop = c in
-    let is_next : let a = (start (entered taken)).args in
-    c.next_row-next.result ≡ row_of a.s a.due a.p ((at-loop taken).loop.j * 2 + 1) = let a = (start (entered taken)).args in
-    let at = (at-loop taken).loop in
+    let is_next : let a = (start (entered (c))).args in
+    c.next_row-next.result ≡ row_of a.s a.due a.p ((at-loop (c)).loop.j * 2 + 1) = let a = (start (entered (c))).args in
+    let at = (at-loop (c)).loop in
     c.next_row-next.ensures
-    ∙ ap (λ (n : ℕ). (at.row + 1) % (n - 1)) (entered taken).symbols.ensures
+    ∙ ap (λ (n : ℕ). (at.row + 1) % (n - 1)) (entered (c)).symbols.ensures
     ∙ row_next a.s a.due a.p (at.j * 2) at.row at.inv.1 in
-    let next_within : c.next_row-next.result < n_of (start (entered taken)).args.s - 1 = let a = (start (entered taken)).args in
-    omega (arith, is_next, row_below a.s a.due a.p ((at-loop taken).loop.j * 2 + 1) (some_rows (entered taken)).0) in
-    ((start (entered (taken))).pre.0, next_within)
+    let next_within : c.next_row-next.result < n_of (start (entered (c))).args.s - 1 = let a = (start (entered (c))).args in
+    omega (arith, is_next, row_below a.s a.due a.p ((at-loop (c)).loop.j * 2 + 1) (some_rows (entered (c))).0) in
+    ((start (entered ((c)))).pre.0, next_within)
 
 pub pair_up-requires : goal.pair_up-requires
 pair_up-requires c =
-    let taken : tie.Then1 invariant-loop decreases-loop = c in
-    let is_next : let a = (start (entered taken)).args in
-    c.next_row-next.result ≡ row_of a.s a.due a.p ((at-loop taken).loop.j * 2 + 1) = let a = (start (entered taken)).args in
-    let at = (at-loop taken).loop in
+    let is_next : let a = (start (entered (c))).args in
+    c.next_row-next.result ≡ row_of a.s a.due a.p ((at-loop (c)).loop.j * 2 + 1) = let a = (start (entered (c))).args in
+    let at = (at-loop (c)).loop in
     c.next_row-next.ensures
-    ∙ ap (λ (n : ℕ). (at.row + 1) % (n - 1)) (entered taken).symbols.ensures
+    ∙ ap (λ (n : ℕ). (at.row + 1) % (n - 1)) (entered (c)).symbols.ensures
     ∙ row_next a.s a.due a.p (at.j * 2) at.row at.inv.1 in
-    let next_within : c.next_row-next.result < n_of (start (entered taken)).args.s - 1 = let a = (start (entered taken)).args in
-    omega (arith, is_next, row_below a.s a.due a.p ((at-loop taken).loop.j * 2 + 1) (some_rows (entered taken)).0) in
-    let at = taken in
+    let next_within : c.next_row-next.result < n_of (start (entered (c))).args.s - 1 = let a = (start (entered (c))).args in
+    omega (arith, is_next, row_below a.s a.due a.p ((at-loop (c)).loop.j * 2 + 1) (some_rows (entered (c))).0) in
+    let at = (c) in
     let h = shaped (entered at) in (
       omega (arith, (source at).1),
       h.lanes_few,
@@ -113,37 +106,33 @@ pair_up-requires c =
 
 pub next_row-row-requires : goal.next_row-row-requires
 next_row-row-requires c =
-    let is_next : let a = (start (entered taken)).args in
-    c.next_row-next.result ≡ row_of a.s a.due a.p ((at-loop taken).loop.j * 2 + 1) = let a = (start (entered taken)).args in
-    let at = (at-loop taken).loop in
+    let is_next : let a = (start (entered (c))).args in
+    c.next_row-next.result ≡ row_of a.s a.due a.p ((at-loop (c)).loop.j * 2 + 1) = let a = (start (entered (c))).args in
+    let at = (at-loop (c)).loop in
     c.next_row-next.ensures
-    ∙ ap (λ (n : ℕ). (at.row + 1) % (n - 1)) (entered taken).symbols.ensures
+    ∙ ap (λ (n : ℕ). (at.row + 1) % (n - 1)) (entered (c)).symbols.ensures
     ∙ row_next a.s a.due a.p (at.j * 2) at.row at.inv.1 in
-    let next_within : c.next_row-next.result < n_of (start (entered taken)).args.s - 1 = let a = (start (entered taken)).args in
-    omega (arith, is_next, row_below a.s a.due a.p ((at-loop taken).loop.j * 2 + 1) (some_rows (entered taken)).0) in
-    let taken : tie.Then1 invariant-loop decreases-loop = c in
-    omega (arith, next_within, (entered (taken)).symbols.ensures)
+    let next_within : c.next_row-next.result < n_of (start (entered (c))).args.s - 1 = let a = (start (entered (c))).args in
+    omega (arith, is_next, row_below a.s a.due a.p ((at-loop (c)).loop.j * 2 + 1) (some_rows (entered (c))).0) in
+    omega (arith, next_within, (entered ((c))).symbols.ensures)
 
 pub overflow_add-j-in-loop-j : goal.overflow_add-j-in-loop-j
 overflow_add-j-in-loop-j c =
-    let taken : tie.Then1 invariant-loop decreases-loop = c in
-    omega (arith, few (at-loop (taken)))
+    omega (arith, few (at-loop ((c))))
 
 pub loop-j-smaller : goal.loop-j-smaller
 loop-j-smaller c =
-    let taken : tie.Then1 invariant-loop decreases-loop = c in
-    omega (arith, source (taken))
+    omega (arith, source ((c)))
 
 pub loop-j-preserved : goal.loop-j-preserved
 loop-j-preserved c =
-    let taken : tie.Then1 invariant-loop decreases-loop = c in
-    let is_next : let a = (start (entered taken)).args in
-    c.next_row-next.result ≡ row_of a.s a.due a.p ((at-loop taken).loop.j * 2 + 1) = let a = (start (entered taken)).args in
-    let at = (at-loop taken).loop in
+    let is_next : let a = (start (entered (c))).args in
+    c.next_row-next.result ≡ row_of a.s a.due a.p ((at-loop (c)).loop.j * 2 + 1) = let a = (start (entered (c))).args in
+    let at = (at-loop (c)).loop in
     c.next_row-next.ensures
-    ∙ ap (λ (n : ℕ). (at.row + 1) % (n - 1)) (entered taken).symbols.ensures
+    ∙ ap (λ (n : ℕ). (at.row + 1) % (n - 1)) (entered (c)).symbols.ensures
     ∙ row_next a.s a.due a.p (at.j * 2) at.row at.inv.1 in
-    let from = taken in
+    let from = (c) in
     let at = (at-loop from).loop in
     let a = (start (entered from)).args in
     let turned : at.j * 2 + 1 + 1 ≡ (at.j + 1) * 2 = omega arith in (

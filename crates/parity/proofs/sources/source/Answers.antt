@@ -47,9 +47,8 @@ overflow_add-start c =
 
 pub returns-then-i-sources : goal.returns-then-i-sources
 returns-then-i-sources c =
-    let start : tie.Start = c in
     let is_row : start.args.row * c.message_len.result ≡ start.args.row * message_len start.args.s = ap (λ (m : ℕ). start.args.row * m) c.message_len.ensures in
-    let a = (start).args in
+    let a = ((c)).args in
     ap (λ (m : ℕ). record { start = m + a.i * a.s.lanes; keep = 255 }) (is_row) ∙ source_inside a.s a.row a.i (omega arith)
 
 pub returns : goal.returns

@@ -20,20 +20,20 @@ pub returns-then-not-is_either : goal.returns-then-not-is_either
 unfolding due_read_cause
 returns-then-not-is_either c =
     let sized : eqb (length c.args.state.now) state_len ≡ true = eq-eqb (length c.args.state.now) state_len (omega (arith, c)) in
-    rw (sized, sym c.is_either.ensures ∙ not-true c.is_either.result c.if-not-is_either.true)
+    rw (sized, sym c.is_either.ensures ∙ c.if-not-is_either.true)
 
 pub returns-then-not-accepted : goal.returns-then-not-accepted
 unfolding due_read_cause
 returns-then-not-accepted c =
     let sized : eqb (length c.args.state.now) state_len ≡ true = eq-eqb (length c.args.state.now) state_len (omega (arith, c)) in
-    let marked : either_mark c.args.state.now ≡ true = sym c.is_either.ensures ∙ not-false c.is_either.result c.if-not-is_either.false in
+    let marked : either_mark c.args.state.now ≡ true = sym c.is_either.ensures ∙ c.if-not-is_either.false in
     let settled : c.accepted.result ≡ accepted (settings_at 4 c.args.state.now) = c.accepted.ensures ∙ ap accepted c.settings_at.ensures in
-    rw (sized, marked, sym (settled) ∙ not-true c.accepted.result c.if-not-accepted.true)
+    rw (sized, marked, sym (settled) ∙ c.if-not-accepted.true)
 
 pub returns : goal.returns
 unfolding due_read_cause
 returns c =
     let sized : eqb (length c.args.state.now) state_len ≡ true = eq-eqb (length c.args.state.now) state_len (omega (arith, c)) in
-    let marked : either_mark c.args.state.now ≡ true = sym c.is_either.ensures ∙ not-false c.is_either.result c.if-not-is_either.false in
+    let marked : either_mark c.args.state.now ≡ true = sym c.is_either.ensures ∙ c.if-not-is_either.false in
     let settled : c.accepted.result ≡ accepted (settings_at 4 c.args.state.now) = c.accepted.ensures ∙ ap accepted c.settings_at.ensures in
-    rw (sized, marked, sym (settled) ∙ not-false c.accepted.result c.if-not-accepted.false)
+    rw (sized, marked, sym (settled) ∙ c.if-not-accepted.false)

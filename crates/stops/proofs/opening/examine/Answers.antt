@@ -33,7 +33,7 @@ returns-then-not-accepted c =
     let headed : 14 ≤ length c.args.recording.now = omega arith in
     let short : length c.args.recording.now ≤ 65536 = omega arith in
     starts_refused c.args.recording.now (some) (headed) (short)
-    (ap accepted (sym c.settings_at-s.ensures) ∙ sym c.accepted.ensures ∙ not-true c.accepted.result c.if-not-accepted.true)
+    (ap accepted (sym c.settings_at-s.ensures) ∙ sym c.accepted.ensures ∙ c.if-not-accepted.true)
 
 pub returns-then-recording-frame_len-ne0 : goal.returns-then-recording-frame_len-ne0
 returns-then-recording-frame_len-ne0 c =
@@ -42,7 +42,7 @@ returns-then-recording-frame_len-ne0 c =
     let short : length c.args.recording.now ≤ 65536 = omega arith in
     let passed : T (accepted (settings_in c.args.recording.now)) = subst⁻¹ T
     (ap accepted (sym c.settings_at-s.ensures) ∙ sym c.accepted.ensures
-    ∙ not-false c.accepted.result c.if-not-accepted.false) tt in
+    ∙ c.if-not-accepted.false) tt in
     let frame : c.frame_len.result ≡ frame_len (settings_in c.args.recording.now) = c.frame_len.ensures ∙ ap frame_len c.settings_at-s.ensures in
     starts_part c.args.recording.now (some) (headed) (short) (passed)
     (λ e. c.if-recording-frame_len-ne0.true (ap (λ (m : ℕ). length c.args.recording.now % m) (frame) ∙ e))
@@ -54,7 +54,7 @@ returns c =
     let short : length c.args.recording.now ≤ 65536 = omega arith in
     let passed : T (accepted (settings_in c.args.recording.now)) = subst⁻¹ T
     (ap accepted (sym c.settings_at-s.ensures) ∙ sym c.accepted.ensures
-    ∙ not-false c.accepted.result c.if-not-accepted.false) tt in
+    ∙ c.if-not-accepted.false) tt in
     let frame : c.frame_len.result ≡ frame_len (settings_in c.args.recording.now) = c.frame_len.ensures ∙ ap frame_len c.settings_at-s.ensures in
     ap Play c.settings_at-s.ensures
     ∙ starts_whole c.args.recording.now (some) (headed) (short) (passed)
