@@ -2,7 +2,7 @@
 use mathlib.Core.Path.{◌≡◌, refl, ap, ◌∙◌}
 use mathlib.Core.List.{List, ◌++◌}
 use native.Mathlib.Omega.{arith}
-use Prim.Native.Nat.{ℕ, ◌+◌, ◌-◌, ◌*◌, ◌≤◌, zero-le}
+use Prim.Native.Nat.{ℕ, ◌+◌, ◌*◌, zero-le}
 use lib.ListN.{length, set, take, drop, length-set}
 use lib.Seq.{paste, paste-zero, take-length}
 use Rattle.numbers.specs.Digits.{hex, put}
@@ -13,32 +13,15 @@ pub loop-i-init : goal.loop-i-init
 loop-i-init c =
     (zero-le, refl, paste-zero c.args.line.now c.args.start (hex c.args.bytes.now))
 
-pub digit-requires : goal.digit-requires
-digit-requires c =
-    omega (arith, c.shared_slice_known-in-loop-i-1.given c.loop-i.i)
-
-pub digit-requires-in-loop-i : goal.digit-requires-in-loop-i
-digit-requires-in-loop-i c =
-    omega (arith, c.shared_slice_known-in-loop-i-2-1.given c.loop-i.i)
-
-pub bounds-line-at-in-loop-i : goal.bounds-line-at-in-loop-i
-bounds-line-at-in-loop-i c =
-    simp length-set (omega arith)
-
 pub loop-i-preserved : goal.loop-i-preserved
-loop-i-preserved c =
-    (
-      omega arith,
-      simp length-set c.loop-i.invariant.1,
-      ap (λ (l : List ℕ). set (set l (c.args.start + 2 * c.loop-i.i) c.digit.result) (c.args.start + 2 * c.loop-i.i + 1) c.digit-in-loop-i.result)
-          c.loop-i.invariant.2
-          ∙ byte_pasted c.args.bytes.now c.args.line.now c.args.start c.loop-i.i c.digit.result c.digit-in-loop-i.result
-          (omega arith) (omega arith) c.digit.ensures c.digit-in-loop-i.ensures,
-    )
-
-pub shape_of-line : goal.shape_of-line
-shape_of-line c =
-    c.loop-i.invariant.1
+loop-i-preserved c = (
+  omega arith,
+  simp length-set c.loop-i.invariant.1,
+  ap (λ (l : List ℕ). set (set l (c.args.start + 2 * c.loop-i.i) c.digit.result) (c.args.start + 2 * c.loop-i.i + 1) c.digit-in-loop-i.result)
+      c.loop-i.invariant.2
+      ∙ byte_pasted c.args.bytes.now c.args.line.now c.args.start c.loop-i.i c.digit.result c.digit-in-loop-i.result
+      (omega arith) (omega arith) c.digit.ensures c.digit-in-loop-i.ensures,
+)
 
 pub returns : goal.returns
 unfolding put

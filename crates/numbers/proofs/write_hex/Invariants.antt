@@ -1,12 +1,9 @@
 -- The loop pastes the two digits of a byte a turn.
-use mathlib.Core.Path.{◌≡◌, refl, ap, ◌∙◌}
-use mathlib.Core.List.{List, ◌++◌}
-use native.Mathlib.Omega.{arith}
-use Prim.Native.Nat.{ℕ, ◌+◌, ◌-◌, ◌*◌, ◌≤◌, zero-le}
-use lib.ListN.{length, set, take, drop, length-set}
-use lib.Seq.{paste, paste-zero, take-length}
-use Rattle.numbers.specs.Digits.{hex, put}
-use Rattle.numbers.proofs.HexDigits.{hex_length, byte_pasted}
+use mathlib.Core.Path.{◌≡◌}
+use Prim.Native.Nat.{◌-◌, ◌*◌, ◌≤◌}
+use lib.ListN.{length}
+use lib.Seq.{paste}
+use Rattle.numbers.specs.Digits.{hex}
 use Rattle.numbers.proofs.write_hex.Given as goal
 
 abbrev pub invariant-loop-i : goal.invariant-loop-i
