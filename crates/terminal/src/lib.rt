@@ -9,6 +9,7 @@ use protocol::{Receiver, Reply};
 use receiver::Reported;
 
 // A report by value: of a frame where `heard`, else of a loss, which has no frame to read.
+#[tactic(auto, unfolding(crate::specs::Given::report_in, protocol::specs::TwoLists::report_of))]
 fn reported(x: Receiver, rows: &mut [u8], heard: bool, frame: &[u8], message: &mut [u8]) -> Reported
     ensures { record { reply = result.reply; receiver = result.receiver; rows = rows.new; message = message.new }
         ≡ report_of x rows.old (report_in heard frame.now message.old) }

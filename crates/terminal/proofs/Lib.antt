@@ -1,2 +1,0 @@
--- What the functions' proofs cite.
-pub mod Values
