@@ -15,7 +15,7 @@ BEGIN {
 /^[^#]*:/ {
     if (heading != "") { title[++groups] = heading; heading = "" }
     name = uses = $0
-    sub(/:.*/, "", name)
+    sub(/[ :].*/, "", name) # also of 'NAME staticlib:'
     sub(/^[^:]*: */, "", uses); sub(/  .*/, "", uses)
     crate[++crates] = name; group[name] = groups; direct[name] = uses
 }
