@@ -71,7 +71,7 @@ module _ (recording : List ℕ) (offset size : ℕ) where
           let none : size ≡ 0 = eqb-true size 0 e in
           short before (λ some. omega arith) (none_stands before none)
       sized false e before =
-          let not_None = eqb-false size 0 e in
+          let not_none = eqb-false size 0 e in
           left (ltb (length recording - offset) size) refl before (omega arith)
 
       past : (b : Bool) → leb (length recording) offset ≡ b → Standing recording offset size
