@@ -23,6 +23,7 @@ first_holds (r ∷ rs) n some e = go r.holds refl e (λ e'. first_holds rs n som
     go false is e' rest = FirstHolds.later {r = r} (rw is (λ t. t)) (rest e')
 
 pub holds_first : (rs : List Numbered) (n : ℕ) → FirstHolds n rs → first_number rs ≡ n
+holds_first [] n x' = elim x' [ ]
 holds_first (r ∷ rs) n (FirstHolds.here t e) = go r.holds t
   where
     go : (b : Bool) → T b → or_else b r.number (first_number rs) ≡ n

@@ -59,4 +59,4 @@ returns c =
     let each : (i : ℕ) (t : Bool) → eqb i c.args.r ≡ t → get_or (set c.loop-q.rows c.args.r c.scaled-pivot.result) i [] ≡ row (ltb i c.args.k) i = λ i t.
     elim t [ true ↦ λ e. own i e | false ↦ λ e. other i e (ltb i c.args.k) refl ] in
     is_table 16 (λ i. row (ltb i c.args.k) i) [] (set c.loop-q.rows c.args.r c.scaled-pivot.result) (length-set c.loop-q.rows c.args.r c.scaled-pivot.result ∙ c.loop-q.invariant.1)
-    (λ i h. each i (eqb i c.args.r) refl)in
+    (λ i h. each i (eqb i c.args.r) refl)

@@ -18,14 +18,20 @@ pub returns-then-flag-ne1 : goal.returns-then-flag-ne1
 returns-then-flag-ne1 c =
     let x = both c.args.rows.now c.args.roles.now in
     let off : eqb c.args.flag 1 ≡ false = ne_eqb c.args.flag 1 (λ on. omega arith) in
-    (unknown_step c.args.k c.args.p x (eqb c.args.flag 1) off, unknown_left c.args.k c.args.p x (eqb c.args.flag 1) c.args.flag off)
+    record {
+      step = unknown_step c.args.k c.args.p x (eqb c.args.flag 1) off;
+      left = unknown_left c.args.k c.args.p x (eqb c.args.flag 1) c.args.flag off;
+    }
 
 pub returns-then-r-gt15 : goal.returns-then-r-gt15
 returns-then-r-gt15 c =
     let x = both c.args.rows.now c.args.roles.now in
     let on : eqb c.args.flag 1 ≡ true = eq-eqb c.args.flag 1 (omega arith) in
     let none : 15 < pivot_from x c.args.p 0 c.args.k = omega (arith, c.pivot_row-r.ensures) in
-    (no_pivot_step c.args.k c.args.p x (eqb c.args.flag 1) on none, no_pivot_left c.args.k c.args.p x (eqb c.args.flag 1) c.args.flag on none)
+    record {
+      step = no_pivot_step c.args.k c.args.p x (eqb c.args.flag 1) on none;
+      left = no_pivot_left c.args.k c.args.p x (eqb c.args.flag 1) c.args.flag on none;
+    }
 
 pub clear_column-requires : goal.clear_column-requires
 clear_column-requires c =
@@ -42,9 +48,9 @@ pub returns : goal.returns
 returns c =
     let x = both c.args.rows.now c.args.roles.now in
     let on : eqb c.args.flag 1 ≡ true = eq-eqb c.args.flag 1 (omega arith) in
-    let some : pivot_from x c.args.p 0 c.args.k < 16 = omega arith in (
-      ap₂ both c.clear_column.ensures refl
+    let some : pivot_from x c.args.p 0 c.args.k < 16 = omega arith in record {
+      step = ap₂ both c.clear_column.ensures refl
           ∙ ap (λ (r : ℕ). both (cleared c.args.k c.args.rows.now r c.args.p) (set c.args.roles.now r c.args.p)) c.pivot_row-r.ensures
-          ∙ pivot_step c.args.k c.args.p x (eqb c.args.flag 1) on some,
-      pivot_left c.args.k c.args.p x (eqb c.args.flag 1) c.args.flag on some,
-    )
+          ∙ pivot_step c.args.k c.args.p x (eqb c.args.flag 1) on some;
+      left = pivot_left c.args.k c.args.p x (eqb c.args.flag 1) c.args.flag on some;
+    }

@@ -30,8 +30,7 @@ loop-r-preserved c =
     let left : c.args.k - c.loop-r.r ≡ suc (c.args.k - (c.loop-r.r + 1)) = omega arith in (
       omega arith,
       c.loop-r.invariant.1 ∙ ap (pivot_from x c.args.p c.loop-r.r) left
-          ∙ ⊎_elim (λ way. pivot_zero x c.args.p c.loop-r.r (omega arith) (c.args.k - (c.loop-r.r + 1)) (omega arith))
-          (λ way. pivot_taken x c.args.p c.loop-r.r (omega arith) (c.args.k - (c.loop-r.r + 1)) (λ same. omega arith)) c.if-roles-r-eq16.branch
+          ∙ step
           ∙ ap (λ (q : ℕ). pivot_from x c.args.p q (c.args.k - (c.loop-r.r + 1))) (sym (add-one c.loop-r.r)),
     )
 

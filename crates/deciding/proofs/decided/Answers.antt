@@ -113,11 +113,11 @@ returns-then-worst-eq0 c =
     let graded : c.loop-i.worst ≡ symbols_grade c.args.s c.args.rows.now c.args.due c.args.t (k_of c.args.s) = let all : c.loop-i.i ≡ k_of c.args.s = omega arith in
     c.loop-i.invariant.3 ∙ ap (symbols_grade c.args.s c.args.rows.now c.args.due c.args.t) all in
     let all : c.loop-i.i ≡ k_of c.args.s = omega arith in
-    let done : c.loop-i.i * c.args.s.lanes ≡ k_of c.args.s * c.args.s.lanes = ap (λ (m : ℕ). m * c.args.s.lanes) all in (
-      verdict_whole c.args.s c.args.rows.now c.args.due c.args.t (sym (graded) ∙ c.if-worst-eq0.true),
-      is_table (message_len c.args.s) (shared_byte c.args.s c.args.rows.now c.args.due c.args.t) 0 c.loop-i.message c.loop-i.invariant.2
-          (λ q h. c.loop-i.invariant.4 c.if-worst-eq0.true q (omega arith)),
-    )
+    let done : c.loop-i.i * c.args.s.lanes ≡ k_of c.args.s * c.args.s.lanes = ap (λ (m : ℕ). m * c.args.s.lanes) all in record {
+      said = verdict_whole c.args.s c.args.rows.now c.args.due c.args.t (sym (graded) ∙ c.if-worst-eq0.true);
+      message = is_table (message_len c.args.s) (shared_byte c.args.s c.args.rows.now c.args.due c.args.t) 0 c.loop-i.message c.loop-i.invariant.2
+          (λ q h. c.loop-i.invariant.4 c.if-worst-eq0.true q (omega arith));
+    }
 
 pub shape_of-message-then-worst-eq1 : goal.shape_of-message-then-worst-eq1
 shape_of-message-then-worst-eq1 c =
@@ -128,10 +128,10 @@ unfolding buffer_of
 returns-then-worst-eq1 c =
     let graded : c.loop-i.worst ≡ symbols_grade c.args.s c.args.rows.now c.args.due c.args.t (k_of c.args.s) = let all : c.loop-i.i ≡ k_of c.args.s = omega arith in
     c.loop-i.invariant.3 ∙ ap (symbols_grade c.args.s c.args.rows.now c.args.due c.args.t) all in
-    (
-      verdict_lost c.args.s c.args.rows.now c.args.due c.args.t (sym (graded) ∙ c.if-worst-eq1.true),
-      c.clear.ensures ∙ ap (λ (m : ℕ). replicate m 0) c.loop-i.invariant.2,
-    )
+    record {
+      said = verdict_lost c.args.s c.args.rows.now c.args.due c.args.t (sym (graded) ∙ c.if-worst-eq1.true);
+      message = c.clear.ensures ∙ ap (λ (m : ℕ). replicate m 0) c.loop-i.invariant.2;
+    }
 
 pub shape_of-message : goal.shape_of-message
 shape_of-message c =
@@ -142,8 +142,8 @@ unfolding buffer_of
 returns c =
     let graded : c.loop-i.worst ≡ symbols_grade c.args.s c.args.rows.now c.args.due c.args.t (k_of c.args.s) = let all : c.loop-i.i ≡ k_of c.args.s = omega arith in
     c.loop-i.invariant.3 ∙ ap (symbols_grade c.args.s c.args.rows.now c.args.due c.args.t) all in
-    (
-      verdict_clash c.args.s c.args.rows.now c.args.due c.args.t
-          (λ none. c.if-worst-eq0.false (graded ∙ none)) (λ one. c.if-worst-eq1.false (graded ∙ one)),
-      c.clear.ensures ∙ ap (λ (m : ℕ). replicate m 0) c.loop-i.invariant.2,
-    )
+    record {
+      said = verdict_clash c.args.s c.args.rows.now c.args.due c.args.t
+          (λ none. c.if-worst-eq0.false (graded ∙ none)) (λ one. c.if-worst-eq1.false (graded ∙ one));
+      message = c.clear.ensures ∙ ap (λ (m : ℕ). replicate m 0) c.loop-i.invariant.2;
+    }

@@ -10,7 +10,14 @@ use Rattle.galois.specs.Sum.{sum}
 use Rattle.galois.proofs.Xor.{plus_assoc, plus_zero}
 use Rattle.galois.specs.Table.{table}
 use Rattle.galois.proofs.ByIndex.{is_table, get_or-table, table_equal}
+use Rattle.encoder.proofs.cancelled.Invariants.{reached}
 use Rattle.encoder.proofs.cancelled.Goals as goal
+
+reached_none : (row : List ℕ) (done : List (List ℕ)) (i p : ℕ) → get_or row p 0 ≡ reached row done i (i + 1) p
+unfolding sum
+reached_none row done i p =
+    let none : i + 1 - (i + 1) ≡ 0 = omega arith in
+    rw none (sym (plus_zero (get_or row p 0)))
 
 reached_more : (row : List ℕ) (done : List (List ℕ)) (i m p : ℕ) → i + 1 ≤ m
     → reached row done i m p ⊕ get_or row m 0 ⊗ get_or (get_or done m []) p 0 ≡ reached row done i (m + 1) p
@@ -22,15 +29,6 @@ reached_more row done i m p h =
     rw count
     (plus_assoc (get_or row p 0) (sum (m - (i + 1)) (λ e. term (i + 1 + e))) (term m)
     ∙ ap (λ (x : ℕ). get_or row p 0 ⊕ (sum (m - (i + 1)) (λ e. term (i + 1 + e)) ⊕ x)) (ap term (sym last)))
-
-reached_none : (row : List ℕ) (done : List (List ℕ)) (i p : ℕ) → get_or row p 0 ≡ reached row done i (i + 1) p
-unfolding sum
-reached_none row done i p =
-    let none : i + 1 - (i + 1) ≡ 0 = omega arith in
-    rw none (sym (plus_zero (get_or row p 0)))
-
-abbrev reached : List ℕ → List (List ℕ) → ℕ → ℕ → ℕ → ℕ
-reached row done i m p = get_or row p 0 ⊕ sum (m - (i + 1)) (λ e. get_or row (i + 1 + e) 0 ⊗ get_or (get_or done (i + 1 + e) []) p 0)
 
 pub loop-m-init : goal.loop-m-init
 loop-m-init c =

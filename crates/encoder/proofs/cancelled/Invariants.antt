@@ -12,6 +12,9 @@ use Rattle.galois.specs.Table.{table}
 use Rattle.galois.proofs.ByIndex.{is_table, get_or-table, table_equal}
 use Rattle.encoder.proofs.cancelled.Given as goal
 
+abbrev pub reached : List ℕ → List (List ℕ) → ℕ → ℕ → ℕ → ℕ
+reached row done i m p = get_or row p 0 ⊕ sum (m - (i + 1)) (λ e. get_or row (i + 1 + e) 0 ⊗ get_or (get_or done (i + 1 + e) []) p 0)
+
 abbrev pub invariant-loop-m : goal.invariant-loop-m
 invariant-loop-m l =
     (l.i + 1 ≤ l.m) × (l.m ≤ l.end) × (l.out ≡ table 16 (reached l.row l.done l.i l.m))

@@ -27,4 +27,7 @@ pub returns : goal.returns
 returns c =
     let passed : c.loop-j.j ≡ c.args.count = omega arith in
     let all : c.loop-j.bits ≡ bits_of c.args.halves.now c.args.count = c.loop-j.invariant.1 ∙ ap (bits_of c.args.halves.now) passed in
-    (λ j h. subst⁻¹ (Under (get_or c.args.halves.now j 0)) all (under_bits c.args.halves.now c.args.count j h), all)
+    record {
+      under = λ j h. subst⁻¹ (Under (get_or c.args.halves.now j 0)) all (under_bits c.args.halves.now c.args.count j h);
+      bits = all;
+    }

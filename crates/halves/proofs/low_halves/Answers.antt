@@ -7,4 +7,7 @@ use Rattle.halves.proofs.low_halves.Goals as goal
 
 pub returns : goal.returns
 returns c =
-    (λ i h. c.pack_halves.ensures.0 i h ∙ ap (λ (x : ℕ). x % 16) (div-one _), c.pack_halves.ensures.1)
+    record {
+      halves = λ i h. c.pack_halves.ensures.0 i h ∙ ap (λ (x : ℕ). x % 16) (div-one _);
+      rest = c.pack_halves.ensures.1;
+    }

@@ -24,7 +24,7 @@ loop-j-preserved c =
 
 pub returns : goal.returns
 returns c =
-    (
-      packed c.loop-j.out (λ i. get_or (get_or c.args.rows.now i []) c.args.q 0 / c.args.unit) c.args.count (λ k h. c.loop-j.invariant.2 k (omega arith)),
-      λ k h. c.loop-j.invariant.3 k (omega arith),
-    )
+    record {
+      halves = packed c.loop-j.out (λ i. get_or (get_or c.args.rows.now i []) c.args.q 0 / c.args.unit) c.args.count (λ k h. c.loop-j.invariant.2 k (omega arith));
+      rest = λ k h. c.loop-j.invariant.3 k (omega arith);
+    }

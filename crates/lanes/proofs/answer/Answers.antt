@@ -41,7 +41,7 @@ returns-then-clashing c =
     let checked : let a = ((c)).args in
     c.clashing.result ≡ lanes_clash a.s ((both start.args.rows.now start.args.roles.now)) a.flags.now a.places.now a.bytes.now = let a = ((c)).args in
     c.clashing.ensures
-    ∙ clash_sums a.s ((both start.args.rows.now start.args.roles.now)) a.flags.now a.places.now a.bytes.now (c.gather.new.pairs) (shaped) (shared) in
+    ∙ clash_sums a.s ((both start.args.rows.now start.args.roles.now)) a.flags.now a.places.now a.bytes.now c.gather.new.pairs (shaped) (shared) in
     let a = ((c)).args in
     said_clash a.s ((both start.args.rows.now start.args.roles.now)) a.flags.now a.places.now a.bytes.now a.i a.out.now
     (sym (checked) ∙ c.if-clashing.true)
@@ -76,7 +76,7 @@ returns-then-roles-i c =
     let checked : let a = ((c)).args in
     c.clashing.result ≡ lanes_clash a.s ((both start.args.rows.now start.args.roles.now)) a.flags.now a.places.now a.bytes.now = let a = ((c)).args in
     c.clashing.ensures
-    ∙ clash_sums a.s ((both start.args.rows.now start.args.roles.now)) a.flags.now a.places.now a.bytes.now (c.gather.new.pairs) (shaped) (shared) in
+    ∙ clash_sums a.s ((both start.args.rows.now start.args.roles.now)) a.flags.now a.places.now a.bytes.now c.gather.new.pairs (shaped) (shared) in
     let from = (c) in
     let a = from.args in
     let h = shaped in
@@ -106,7 +106,7 @@ returns-then-differing c =
     let checked : let a = ((c)).args in
     c.clashing.result ≡ lanes_clash a.s ((both start.args.rows.now start.args.roles.now)) a.flags.now a.places.now a.bytes.now = let a = ((c)).args in
     c.clashing.ensures
-    ∙ clash_sums a.s ((both start.args.rows.now start.args.roles.now)) a.flags.now a.places.now a.bytes.now (c.gather.new.pairs) (shaped) (shared) in
+    ∙ clash_sums a.s ((both start.args.rows.now start.args.roles.now)) a.flags.now a.places.now a.bytes.now c.gather.new.pairs (shaped) (shared) in
     let a = ((c)).args in
     said_lost a.s ((both start.args.rows.now start.args.roles.now)) a.flags.now a.places.now a.bytes.now a.i a.out.now
     (sym (checked) ∙ c.if-clashing.false) (sym c.differing.ensures ∙ c.if-differing.true)
@@ -131,10 +131,10 @@ returns c =
     let checked : let a = ((c)).args in
     c.clashing.result ≡ lanes_clash a.s ((both start.args.rows.now start.args.roles.now)) a.flags.now a.places.now a.bytes.now = let a = ((c)).args in
     c.clashing.ensures
-    ∙ clash_sums a.s ((both start.args.rows.now start.args.roles.now)) a.flags.now a.places.now a.bytes.now (c.gather.new.pairs) (shaped) (shared) in
+    ∙ clash_sums a.s ((both start.args.rows.now start.args.roles.now)) a.flags.now a.places.now a.bytes.now c.gather.new.pairs (shaped) (shared) in
     let a = ((c)).args in
     ap (answers 0)
     (c.write_sum.ensures
-    ∙ sums_combined a.s ((both start.args.rows.now start.args.roles.now)) a.places.now a.bytes.now (c.gather.new.pairs) (shaped) (shared) a.i)
+    ∙ sums_combined a.s ((both start.args.rows.now start.args.roles.now)) a.places.now a.bytes.now c.gather.new.pairs (shaped) (shared) a.i)
     ∙ said_whole a.s ((both start.args.rows.now start.args.roles.now)) a.flags.now a.places.now a.bytes.now a.i a.out.now
     (sym (checked) ∙ c.if-clashing.false) (sym c.differing.ensures ∙ c.if-differing.false)

@@ -18,9 +18,11 @@ use Rattle.aerials.proofs.Lent.{joining}
 use Rattle.measured.specs.Timed.{joined_len, heard_slots}
 use Rattle.measured.proofs.heard_slots.Goals as goal
 
-at_most_one : (b : Bool) → cond b 1 0 ≤ 1
-at_most_one true = omega arith
-at_most_one false = omega arith
+next_slot_lem : (settings first second : List ℕ) (slot : ℕ)
+    → heard_slots settings first second (suc slot)
+    ≡ heard_slots settings first second slot + cond (not (eqb (joined_len settings first second slot) 0)) 1 0
+unfolding heard_slots count
+next_slot_lem settings first second slot = refl
 
 none_heard : (settings first second : List ℕ) (slots : ℕ) → pair_cause (settings_at 0 settings) first second ≢ 0
     → heard_slots settings first second slots ≡ 0
@@ -29,11 +31,9 @@ none_heard settings first second slots some =
     count_none slots (λ slot. not (eqb (joined_len settings first second slot) 0))
     (λ slot h t. rw (joining.of_refused (settings_at 0 settings) first second slot some, no_bytes first second) at t)
 
-next_slot_lem : (settings first second : List ℕ) (slot : ℕ)
-    → heard_slots settings first second (suc slot)
-    ≡ heard_slots settings first second slot + cond (not (eqb (joined_len settings first second slot) 0)) 1 0
-unfolding heard_slots count
-next_slot_lem settings first second slot = refl
+at_most_one : (b : Bool) → cond b 1 0 ≤ 1
+at_most_one true = omega arith
+at_most_one false = omega arith
 
 pub returns-then-pair_cause-ne0 : goal.returns-then-pair_cause-ne0
 returns-then-pair_cause-ne0 c =

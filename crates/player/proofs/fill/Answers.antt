@@ -13,11 +13,11 @@ use Rattle.player.proofs.FillLaws.{part, part_length, Going, goes, full, fitting
 use Rattle.player.proofs.StepsLeft.{steps_left, fewer}
 use Rattle.player.proofs.fill.Goals as goal
 
-abbrev made : At → Outcome
-made c = outcome c.step.result c.step.new.1.1.0 c.step.new.1.1.1.0 c.step.new.1.1.1.1.0
-
 abbrev recording : At → List ℕ
 recording c = (start (loop c)).args.recording.now
+
+abbrev made : At → Outcome
+made c = outcome c.step.result c.step.new.1.1.0 c.step.new.1.1.1.0 c.step.new.1.1.1.1.0
 
 pub loop-rows-init : goal.loop-rows-init
 loop-rows-init c =
@@ -83,3 +83,7 @@ unfolding longest
 returns c =
     full _ _ _ _ _ c.loop-rows.q c.loop-rows.at c.loop-rows.rows c.loop-rows.message c.loop-rows.out c.loop-rows.invariant.0
     (leb-false (18 + 2 * length c.loop-rows.message) (length c.loop-rows.out - c.loop-rows.at) (sym c.has_room.ensures ∙ c.loop-rows-test.false))
+
+pub overflow_sub-out : goal.overflow_sub-out
+overflow_sub-out c =
+    omega (arith, c.loop-rows.invariant.0.within)

@@ -1,6 +1,6 @@
 -- The loop does one parity position a turn, and clears its flag where it becomes a pivot.
 use borrow.Author.Rules.{rules}
-use borrow.Author.Tests.{not-true, not-false}
+use borrow.Author.Tests.{not_true, not-false}
 use mathlib.Core.Path.{◌≡◌, refl, sym, ap, ap₂, ◌∙◌, subst⁻¹}
 use mathlib.Core.Bool.{true, false}
 use mathlib.Core.List.{List}
@@ -21,8 +21,11 @@ pub returns-then-not-accepted : goal.returns-then-not-accepted
 returns-then-not-accepted c =
     let x = both c.args.matrix c.args.roles.now in
     let refused : accepted c.args.s ≡ false =
-    sym c.accepted.ensures ∙ c.if-not-accepted.true in
-    (reduced_refused c.args.s x c.args.flags.now refused, left_refused c.args.s x c.args.flags.now refused)
+    sym c.accepted.ensures ∙ not_true c.accepted.result c.if-not-accepted.true in
+    record {
+      reduced = reduced_refused c.args.s x c.args.flags.now refused;
+      left = left_refused c.args.s x c.args.flags.now refused;
+    }
 
 pub loop-p-init : goal.loop-p-init
 unfolding columns left_after
@@ -64,8 +67,8 @@ pub returns : goal.returns
 returns c =
     let passed : accepted c.args.s ≡ true = sym c.accepted.ensures ∙ c.if-not-accepted.false in
     let x : Reduced = both c.args.matrix c.args.roles.now in
-    let all : c.loop-p.p - k_of c.args.s ≡ c.args.s.burst = omega (arith, c.loop-p.invariant.0.symbols) in (
-      c.loop-p.invariant.3 ∙ ap (columns c.args.s (known_in c.args.s c.args.flags.now) x) all
-          ∙ reduced_accepted c.args.s x c.args.flags.now (passed),
-      c.loop-p.invariant.4 ∙ ap (left_after c.args.s x c.args.flags.now) all ∙ left_accepted c.args.s x c.args.flags.now (passed),
-    )
+    let all : c.loop-p.p - k_of c.args.s ≡ c.args.s.burst = omega (arith, c.loop-p.invariant.0.symbols) in record {
+      reduced = c.loop-p.invariant.3 ∙ ap (columns c.args.s (known_in c.args.s c.args.flags.now) x) all
+          ∙ reduced_accepted c.args.s x c.args.flags.now (passed);
+      left = c.loop-p.invariant.4 ∙ ap (left_after c.args.s x c.args.flags.now) all ∙ left_accepted c.args.s x c.args.flags.now (passed);
+    }

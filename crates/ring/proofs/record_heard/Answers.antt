@@ -14,19 +14,19 @@ use Rattle.protocol.proofs.LengthBounds.{receiver_small}
 use Rattle.ring.proofs.RowEnds.{some_row, row_ends}
 use Rattle.ring.proofs.record_heard.Goals as goal
 
+ends : (s : Settings) (due : ℕ) → due % row_count s * row_len s + row_len s ≤ receiver_len s
+ends s due = row_ends s (due % row_count s) (mod-lt due (some_row s))
+
+headed : (s : Settings) (frame : List ℕ) → length frame ≡ frame_len s → 14 ≤ length frame
+unfolding frame_len
+headed s frame e = omega arith
+
 body : (s : Settings) (frame : List ℕ) → length frame ≡ frame_len s
     → (take (length frame - 14) (drop 14 frame) ≡ drop 14 frame) × (1 + length (drop 14 frame) ≡ row_len s)
 unfolding frame_len row_len
 body s frame e =
     let rest : length (drop 14 frame) ≡ length frame - 14 = length-drop 14 frame in
     (take_all (length frame - 14) (drop 14 frame) (omega arith), omega arith)
-
-headed : (s : Settings) (frame : List ℕ) → length frame ≡ frame_len s → 14 ≤ length frame
-unfolding frame_len
-headed s frame e = omega arith
-
-ends : (s : Settings) (due : ℕ) → due % row_count s * row_len s + row_len s ≤ receiver_len s
-ends s due = row_ends s (due % row_count s) (mod-lt due (some_row s))
 
 pub nonzero_rem-row : goal.nonzero_rem-row
 nonzero_rem-row c =
@@ -53,3 +53,13 @@ returns c =
     c.row_count.ensures c.row_len.ensures
     ∙ ap (λ (l : List ℕ). written l (row_count c.args.s) (row_len c.args.s) (1 + length l)) b.0
     ∙ ap (λ (k : ℕ). written (drop 14 c.args.frame.now) (row_count c.args.s) (row_len c.args.s) k) b.1
+
+pub overflow_mul-row : goal.overflow_mul-row
+unfolding receiver_len
+overflow_mul-row c =
+    rw (c.row_count.ensures, c.row_len.ensures)
+    (omega (arith, ends c.args.s c.args.due, receiver_small c.args.s (search rules) (search rules) (search rules)))
+
+pub slice_bounds-write_received-count : goal.slice_bounds-write_received-count
+slice_bounds-write_received-count c =
+    headed c.args.s c.args.frame.now c.requires.2

@@ -32,3 +32,9 @@ returns c =
     ∙ ap₂
     (λ (n m : ℕ). take (c.args.due % n * m) c.args.rows.now ++ replicate m 0 ++ drop (c.args.due % n * m + m) c.args.rows.now)
     c.row_count.ensures c.row_len-size.ensures
+
+pub overflow_mul-row : goal.overflow_mul-row
+unfolding receiver_len
+overflow_mul-row c =
+    rw (c.row_count.ensures, c.row_len-size.ensures)
+    (omega (arith, ends c.args.s c.args.due, receiver_small c.args.s (search rules) (search rules) (search rules)))

@@ -16,11 +16,11 @@ use Rattle.protocol.specs.Causes.{agree}
 use Rattle.state.specs.State.{mark_of}
 use Rattle.state.proofs.is_marked.Goals as goal
 
-abbrev same : List ℕ → ℕ → ℕ → Bool
-same bytes end j = eqb (get_or bytes j 0) (get_or (mark_of end) j 0)
-
 byte_of : (mark : List ℕ) (end : ℕ) → mark ≡ mark_of end → (j : ℕ) → get_or mark j 0 ≡ get_or (mark_of end) j 0
 byte_of mark end e j = ap (λ (l : List ℕ). get_or l j 0) e
+
+abbrev same : List ℕ → ℕ → ℕ → Bool
+same bytes end j = eqb (get_or bytes j 0) (get_or (mark_of end) j 0)
 
 pub loop-i-init : goal.loop-i-init
 loop-i-init c =

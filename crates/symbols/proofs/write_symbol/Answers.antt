@@ -80,3 +80,9 @@ returns c =
     (c.answer.ensures
     ∙ ap (λ (x : Reduced). lanes_said c.args.s x c.eliminate-reduced.new.flags c.locate.new.places c.args.rows.now c.args.i c.args.out.now) (reduced)
     ∙ ap (λ (l : List ℕ). lanes_said c.args.s x c.eliminate-reduced.new.flags l c.args.rows.now c.args.i c.args.out.now) c.locate.ensures.places)
+
+pub overflow_add-due : goal.overflow_add-due
+overflow_add-due c =
+    let shaped : Shape c.args.s = shape c.args.s c.requires.0.settings in
+    let h = shaped in
+    omega arith

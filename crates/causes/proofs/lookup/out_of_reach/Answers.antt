@@ -15,20 +15,6 @@ use Rattle.code.specs.Settings.{delay_of}
 use Rattle.protocol.specs.Causes.{out_of_reach}
 use Rattle.causes.proofs.lookup.out_of_reach.Goals as goal
 
-flagged : (c : tie.Joined1) → let a = c.before.before.args in
-    c.if1.if2 ≡ lt_z a.number (pos a.due -ℤ pos (delay_of a.s)) || lt_z a.number (pos 0)
-flagged c =
-    let at = c.before in
-    first_two (lt_z (number at) (pos (due at) -ℤ pos (delay_of at.before.args.s))) (lt_z (number at) (pos 0)) c.if1.if2
-    (⊎_elim (λ w. inl (sym (first at) ∙ w.0.taken, w.1 ∙ w.0.taken)) (λ w. inr (sym (first at) ∙ w.0.left, w.1 ∙ second at)) c.if1.branch)
-
-first_two : (a b f : Bool) → ((a ≡ true) × (f ≡ true)) ⊎ ((a ≡ false) × (f ≡ b)) → f ≡ a || b
-first_two a b f (inl (e, g)) = rw (e, g)
-first_two a b f (inr (e, g)) = rw (e, g)
-
-fits_less : (a b : ℕ) → a < 2 ^ 63 → b < 2 ^ 63 → SFits w64 (to_z w64 a -ℤ to_z w64 b)
-fits_less a b ha hb = rw (to_z_pos w64 a ha, to_z_pos w64 b hb) record { sfits = mag_less a b ha hb }
-
 mag_less : (a b : ℕ) → a < 2 ^ 63 → b < 2 ^ 63 → mag (pos a -ℤ pos b) < 2 ^ 63
 mag_less a zero ha hb = omega arith
 mag_less a (suc b) ha hb = go (ltb a (suc b))
@@ -36,6 +22,20 @@ mag_less a (suc b) ha hb = go (ltb a (suc b))
     go : (below : Bool) → mag (cond below (negsuc (suc b - suc a)) (pos (a - suc b))) < 2 ^ 63
     go true = omega arith
     go false = omega arith
+
+fits_less : (a b : ℕ) → a < 2 ^ 63 → b < 2 ^ 63 → SFits w64 (to_z w64 a -ℤ to_z w64 b)
+fits_less a b ha hb = rw (to_z_pos w64 a ha, to_z_pos w64 b hb) record { sfits = mag_less a b ha hb }
+
+first_two : (a b f : Bool) → ((a ≡ true) × (f ≡ true)) ⊎ ((a ≡ false) × (f ≡ b)) → f ≡ a || b
+first_two a b f (inl (e, g)) = rw (e, g)
+first_two a b f (inr (e, g)) = rw (e, g)
+
+flagged : (c : tie.Joined1) → let a = c.before.before.args in
+    c.if1.if2 ≡ lt_z a.number (pos a.due -ℤ pos (delay_of a.s)) || lt_z a.number (pos 0)
+flagged c =
+    let at = c.before in
+    first_two (lt_z (number at) (pos (due at) -ℤ pos (delay_of at.before.args.s))) (lt_z (number at) (pos 0)) c.if1.if2
+    (⊎_elim (λ w. inl (sym (first at) ∙ w.0.taken, w.1 ∙ w.0.taken)) (λ w. inr (sym (first at) ∙ w.0.left, w.1 ∙ second at)) c.if1.branch)
 
 pub returns-then-number-lt0 : goal.returns-then-number-lt0
 unfolding out_of_reach

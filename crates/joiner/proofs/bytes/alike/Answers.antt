@@ -24,7 +24,7 @@ same_part-requires c =
 pub returns-then-not-same_part : goal.returns-then-not-same_part
 returns-then-not-same_part c =
     sym
-    (part_differs (c.args.a.now) (c.args.b.now) (length (c.args.a.now)) c.loop-k.k 32 (omega (arith, c.loop-k-test.true))
+    (part_differs c.args.a.now c.args.b.now (length c.args.a.now) c.loop-k.k 32 (omega (arith, c.loop-k-test.true))
     (sym c.same_part.ensures ∙ not_true c.same_part.result c.if-not-same_part.true))
 
 pub overflow_add-k : goal.overflow_add-k
@@ -40,7 +40,7 @@ loop-k-preserved c =
     (
       omega (arith, c.loop-k-test.true),
       c.loop-k.invariant.1,
-      further (c.args.a.now) (c.args.b.now) c.loop-k.k 32 c.loop-k.invariant.2
+      further c.args.a.now c.args.b.now c.loop-k.k 32 c.loop-k.invariant.2
           (sym c.same_part.ensures ∙ c.if-not-same_part.false),
     )
 
@@ -59,7 +59,7 @@ same_part-requires-then-end-k-lt16 c =
 pub returns-then-end-k-lt16 : goal.returns-then-end-k-lt16
 returns-then-end-k-lt16 c =
     c.same_part-then-end-k-lt16.ensures
-    ∙ last_part (c.args.a.now) (c.args.b.now) (length (c.args.a.now)) c.loop-k.k c.requires.0 (omega (arith, c.if-end-k-lt16.true)) c.loop-k.invariant.2
+    ∙ last_part c.args.a.now c.args.b.now (length c.args.a.now) c.loop-k.k c.requires.0 (omega (arith, c.if-end-k-lt16.true)) c.loop-k.invariant.2
 
 pub same_part-requires-2 : goal.same_part-requires-2
 same_part-requires-2 c =
@@ -76,5 +76,5 @@ same_part-requires-3 c =
 pub returns : goal.returns
 returns c =
     ap₂ ◌&&◌ c.same_part-2.ensures c.same_part-3.ensures
-    ∙ two_parts (c.args.a.now) (c.args.b.now) (length (c.args.a.now)) c.loop-k.k (omega (arith, c.if-end-k-lt16.false))
+    ∙ two_parts c.args.a.now c.args.b.now (length c.args.a.now) c.loop-k.k (omega (arith, c.if-end-k-lt16.false))
     (omega (arith, c.loop-k-test.false)) c.loop-k.invariant.2

@@ -1,6 +1,6 @@
 -- Each way out is a row of the table.
 use borrow.Author.Rules.{rules}
-use borrow.Author.Tests.{not-true, not-false}
+use borrow.Author.Tests.{not_true, not-false}
 use mathlib.Core.Path.{◌≡◌, sym, ap₂, ◌∙◌}
 use mathlib.Core.Bool.{Bool, true, false, ◌||◌}
 use native.Mathlib.Omega.{arith}
@@ -11,22 +11,22 @@ use Rattle.aerials.proofs.PairLaws.{rising}
 use Rattle.joiner.proofs.Checking.{three, some_of_three, none_of_three}
 use Rattle.joiner.proofs.check.pair_cause.Goals as goal
 
-abbrev slots : tie.After-frame-cause → Bool
-slots c = let a = (start c).args in falling a.s a.first.now || falling a.s a.second.now
-
-abbrev settings : tie.After-frame-cause → Bool
-settings c = let a = (start c).args in other_settings a.s a.first.now || other_settings a.s a.second.now
+three_by : {a b d x y z : Bool} → a ≡ x → b ≡ y → d ≡ z → three a b d 0 ≡ three x y z 0
+three_by e f g = rw (e, f, g)
 
 abbrev marks : tie.After-frame-cause → Bool
 marks c = let a = (start c).args in other_mark a.s a.first.now || other_mark a.s a.second.now
 
-three_by : {a b d x y z : Bool} → a ≡ x → b ≡ y → d ≡ z → three a b d 0 ≡ three x y z 0
-three_by e f g = rw (e, f, g)
+abbrev settings : tie.After-frame-cause → Bool
+settings c = let a = (start c).args in other_settings a.s a.first.now || other_settings a.s a.second.now
+
+abbrev slots : tie.After-frame-cause → Bool
+slots c = let a = (start c).args in falling a.s a.first.now || falling a.s a.second.now
 
 pub returns-then-not-accepted : goal.returns-then-not-accepted
 unfolding pair_cause
 returns-then-not-accepted c =
-    rw (sym c.accepted.ensures ∙ c.if-not-accepted.true)
+    rw (sym c.accepted.ensures ∙ not_true c.accepted.result c.if-not-accepted.true)
 
 pub returns-then-unfit : goal.returns-then-unfit
 unfolding pair_cause

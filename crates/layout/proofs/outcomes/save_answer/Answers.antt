@@ -7,7 +7,7 @@ use Rattle.layout.proofs.outcomes.save_answer.Goals as goal
 
 pub returns : goal.returns
 returns c =
-    (
-      c.answer_number.ensures,
-      c.save.ensures ∙ ap (λ (t : Bool). saved t c.args.bytes c.args.state.now) c.answer_taken.ensures,
-    )
+    record {
+      number = c.answer_number.ensures;
+      state = c.save.ensures ∙ ap (λ (t : Bool). saved t c.args.bytes c.args.state.now) c.answer_taken.ensures;
+    }

@@ -7,7 +7,7 @@ use Rattle.layout.proofs.outcomes.save_reply.Goals as goal
 
 pub returns : goal.returns
 returns c =
-    (
-      c.reply_number.ensures,
-      c.save.ensures ∙ ap (λ (t : Bool). saved t c.args.bytes c.args.state.now) c.reply_taken.ensures,
-    )
+    record {
+      number = c.reply_number.ensures;
+      state = c.save.ensures ∙ ap (λ (t : Bool). saved t c.args.bytes c.args.state.now) c.reply_taken.ensures;
+    }

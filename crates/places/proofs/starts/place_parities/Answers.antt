@@ -153,7 +153,7 @@ pub returns : goal.returns
 unfolding places_to places_of parity_flags
 returns c =
     let read : List ℕ = flags_of c.args.s c.args.rows.now c.args.end c.args.t c.args.i in
-    let all : c.loop-p.p ≡ n_of c.args.s = omega arith in (
-      c.loop-p.invariant.5 ∙ ap (λ (m : ℕ). table 16 (up_to 0 m (place_of c.args.s c.args.t c.args.i))) all,
-      c.loop-p.invariant.6 ∙ ap (λ (m : ℕ). table 16 (up_to 0 m (parity_flag c.args.s read))) all,
-    )
+    let all : c.loop-p.p ≡ n_of c.args.s = omega arith in record {
+      places = c.loop-p.invariant.5 ∙ ap (λ (m : ℕ). table 16 (up_to 0 m (place_of c.args.s c.args.t c.args.i))) all;
+      flags = c.loop-p.invariant.6 ∙ ap (λ (m : ℕ). table 16 (up_to 0 m (parity_flag c.args.s read))) all;
+    }

@@ -21,10 +21,8 @@ use Rattle.places.specs.Places.{places_to, known_flag, flags_of}
 use Rattle.places.proofs.Filled.{up_to, filled_none, filled_kept, filled_next, filled_all}
 use Rattle.places.proofs.Places.{place_of, row_ends, row_next, first_inside, row_at_few}
 use Rattle.places.proofs.Flags.{flag_at}
+use Rattle.places.proofs.starts.place_sources.Invariants.{role_of}
 use Rattle.places.proofs.starts.place_sources.Goals as goal
-
-abbrev role_of : Settings → List ℕ → ℕ → ℕ
-role_of s flags p = cond (ltb p (k_of s) && eqb (get_or flags p 0) 1) p 16
 
 pub overflow_cast-lanes : goal.overflow_cast-lanes
 overflow_cast-lanes c =

@@ -23,6 +23,9 @@ use Rattle.places.proofs.Places.{place_of, row_ends, row_next, first_inside, row
 use Rattle.places.proofs.Flags.{flag_at}
 use Rattle.places.proofs.starts.place_sources.Given as goal
 
+abbrev pub role_of : Settings → List ℕ → ℕ → ℕ
+role_of s flags p = cond (ltb p (k_of s) && eqb (get_or flags p 0) 1) p 16
+
 abbrev pub invariant-loop-p : goal.invariant-loop-p
 invariant-loop-p l =
     Shape l.s × (l.p ≤ k_of l.s) × (l.start ≡ row_at l.s l.t l.i l.p) × (l.offset ≡ 1 + l.p * l.s.lanes) × (l.places ≡ table 16 (up_to 0 l.p (place_of l.s l.t l.i)))

@@ -40,3 +40,8 @@ returns c =
     told_by_lem c.args.x c.args.rows.now c.next_receiver-next.result c.decide-reply.result _ c.next_receiver-next.ensures
     (rw (le-ltb c.args.x.due (delay_of c.args.x.settings) (omega arith)) (says.0 ∙ ap (λ (d : ℕ). verdict c.args.x.settings c.args.rows.now (c.args.x.due + 1) (c.args.x.due - d)) c.effective_delay-delay.ensures))
     (says.1 ∙ ap (λ (d : ℕ). buffer_of c.args.x.settings c.args.rows.now (c.args.x.due + 1) (c.args.x.due - d) c.decide-reply.result) c.effective_delay-delay.ensures)
+
+pub overflow_add-x : goal.overflow_add-x
+unfolding last_slot
+overflow_add-x c =
+    search rules

@@ -29,7 +29,7 @@ loop-v-preserved c =
 
 pub returns : goal.returns
 returns c =
-    (
-      is_table 64 (λ i. get_or c.args.sum.now i 0 ⊕ get_or c.args.vector.now i 0) 0 c.loop-v.sum c.loop-v.invariant.1 (λ i h. c.loop-v.invariant.2 i (omega arith)),
-      λ i h. c.loop-v.invariant.4 i (omega arith),
-    )
+    record {
+      sum = is_table 64 (λ i. get_or c.args.sum.now i 0 ⊕ get_or c.args.vector.now i 0) 0 c.loop-v.sum c.loop-v.invariant.1 (λ i h. c.loop-v.invariant.2 i (omega arith));
+      bytes = λ i h. c.loop-v.invariant.4 i (omega arith);
+    }

@@ -4,4 +4,7 @@ use Rattle.vectors.proofs.sums.plus.Goals as goal
 
 pub returns : goal.returns
 returns c =
-    (c.sum.ensures, c.ranges.y.fits)
+    record {
+      sum = c.sum.ensures;
+      byte = c.ranges.y.fits;
+    }
