@@ -41,7 +41,7 @@ fn all_times() {
     header();
     let ours = engine::ours();
     if ours.is_none() {
-        println!("Ours is not linked (target/staticlib lacks libtob.a or libmeasured.a): the tables go without it.");
+        println!("Ours is not linked (crates/tob or crates/measured has no archive in out/): the tables go without it.");
     }
     let engines: Vec<Engine> = ours.into_iter().chain([engine::plain(), engine::planes()]).collect();
     let joiners: Vec<Joiner> = joiner::ours().into_iter().chain([joiner::plain(), joiner::quick()]).collect();

@@ -1,6 +1,7 @@
 //! Both ends of the tote broadcast for firmware in Rust: a [`Sender`] and a [`Receiver`] above the static library, with a type for each of
 //! its answers. It needs neither `std` nor `alloc`. What each call does is proved; `tob.h` says it in full, and [`calls`] has the calls by
-//! numbers, as C does. The library that is linked is the one that `rt staticlib tob` makes in this repository, for x86-64 Linux.
+//! numbers, as C does. The library that is linked is the one that `rt lib` makes in the folder crates/tob of this repository, for x86-64
+//! Linux.
 //!
 //! In each slot the sender makes one frame of one message. The receiver takes the frames that arrive, and tells of each message, some slots
 //! after its own, whether it is whole, lost, or contradicted. The message that the report of slot t tells of is t - D, where D is the
