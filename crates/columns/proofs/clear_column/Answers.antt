@@ -1,6 +1,6 @@
 -- The loop sweeps the first k rows, from the first on; those from q on are as they came. The pivot's row is set at the end.
 use borrow.Author.Rules.{rules}
-use borrow.Author.Tests.{ltb-true, ltb-false, lt-ltb, eqb-true, eqb-false}
+use borrow.Author.Tests.{lt-ltb, le-ltb, eqb-true, eqb-false}
 use mathlib.Core.Path.{◌≡◌, refl, sym, ap, ap₂, ◌∙◌}
 use mathlib.Core.Bool.{Bool, true, false, cond}
 use mathlib.Core.List.{List, []}
@@ -17,7 +17,14 @@ use Rattle.multiples.specs.Quarters.{row_by}
 use Rattle.multiples.proofs.Digits.{row_by_quarters}
 use Rattle.elimination.specs.Elimination.{cell, scaled_at, cleared}
 use Rattle.columns.proofs.Rewritten.{cleared_row, swept_row, row_swept, row_own, row_other}
+use mathlib.Core.Logic.{⊎_elim}
+use Rattle.galois.proofs.Cases.{le_or_lt}
 use Rattle.columns.proofs.clear_column.Goals as goal
+
+-- what holds whichever way a test comes out
+either : {P : Type 0} (b : Bool) → (b ≡ true → P) → (b ≡ false → P) → P
+either true f g = f refl
+either false f g = g refl
 
 pub loop-q-init : goal.loop-q-init
 loop-q-init c =
@@ -49,14 +56,13 @@ returns c =
     ∙ get_or-set_same c.loop-q.rows c.args.r c.scaled-pivot.result [] (omega (arith, c.loop-q.invariant.1, c.requires.0))
     ∙ c.scaled-pivot.ensures ∙ row_own c.args.rows.now c.args.r c.args.p i e
     ∙ sym (ap (λ (b : Bool). row b i) (lt-ltb i c.args.k (omega (arith, c.requires.0, same)))) in
-    let other : (i : ℕ) → eqb i c.args.r ≡ false → (b : Bool) → ltb i c.args.k ≡ b → get_or (set c.loop-q.rows c.args.r c.scaled-pivot.result) i [] ≡ row b i = λ i e b.
-    elim b [
-      | true ↦ λ t. let below : i < c.args.k = ltb-true i c.args.k t in
-          get_or-set_other c.loop-q.rows c.args.r i c.scaled-pivot.result [] (eqb-false i c.args.r e) ∙ c.loop-q.invariant.2 i (omega arith) ∙ row_other c.args.rows.now c.args.r c.args.p i e
-      | false ↦ λ t. let past : c.args.k ≤ i = ltb-false i c.args.k t in
-          get_or-set_other c.loop-q.rows c.args.r i c.scaled-pivot.result [] (eqb-false i c.args.r e) ∙ c.loop-q.invariant.3 i (omega arith)
-    ] in
-    let each : (i : ℕ) (t : Bool) → eqb i c.args.r ≡ t → get_or (set c.loop-q.rows c.args.r c.scaled-pivot.result) i [] ≡ row (ltb i c.args.k) i = λ i t.
-    elim t [ true ↦ λ e. own i e | false ↦ λ e. other i e (ltb i c.args.k) refl ] in
+    let other : (i : ℕ) → eqb i c.args.r ≡ false → get_or (set c.loop-q.rows c.args.r c.scaled-pivot.result) i [] ≡ row (ltb i c.args.k) i = λ i e.
+    let kept = get_or-set_other c.loop-q.rows c.args.r i c.scaled-pivot.result [] (eqb-false i c.args.r e) in
+    ⊎_elim
+    (λ past. kept ∙ c.loop-q.invariant.3 i (omega arith) ∙ sym (ap (λ (b : Bool). row b i) (le-ltb i c.args.k past)))
+    (λ below. kept ∙ c.loop-q.invariant.2 i (omega arith) ∙ row_other c.args.rows.now c.args.r c.args.p i e
+    ∙ sym (ap (λ (b : Bool). row b i) (lt-ltb i c.args.k below)))
+    (le_or_lt c.args.k i) in
+    let each : (i : ℕ) → get_or (set c.loop-q.rows c.args.r c.scaled-pivot.result) i [] ≡ row (ltb i c.args.k) i = λ i. either (eqb i c.args.r) (own i) (other i) in
     is_table 16 (λ i. row (ltb i c.args.k) i) [] (set c.loop-q.rows c.args.r c.scaled-pivot.result) (length-set c.loop-q.rows c.args.r c.scaled-pivot.result ∙ c.loop-q.invariant.1)
-    (λ i h. each i (eqb i c.args.r) refl)
+    (λ i h. each i)

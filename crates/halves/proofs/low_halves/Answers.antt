@@ -8,6 +8,6 @@ use Rattle.halves.proofs.low_halves.Goals as goal
 pub returns : goal.returns
 returns c =
     record {
-      halves = λ i h. c.pack_halves.ensures.0 i h ∙ ap (λ (x : ℕ). x % 16) (div-one _);
-      rest = c.pack_halves.ensures.1;
+      halves = λ i h. c.pack_halves.ensures.halves i h ∙ ap (λ (x : ℕ). x % 16) (div-one _);
+      rest = c.pack_halves.ensures.rest;
     }

@@ -22,7 +22,7 @@ shape_of-line-in-Refused c =
 pub returns-in-Refused : goal.returns-in-Refused
 returns-in-Refused c =
     stop_line_lem c.args.line.now _ _ _ _ c.args.p c.args.rows.now c.args.message.now c.in-Refused.c
-    c.stopped.ensures.0 c.stopped.ensures.1.0 c.stopped.ensures.1.1.0 c.stopped.ensures.1.1.1
+    c.stopped.ensures.player c.stopped.ensures.len c.stopped.ensures.over c.stopped.ensures.line
     ∙ ap (printed_on c.args.line.now)
     (frame_stops c.args.p c.args.frame.now c.args.end c.args.rows.now c.args.message.now c.in-Refused.c
     (sym c.stop_of-stop.ensures ∙ c.in-Refused.is))
@@ -46,7 +46,7 @@ shape_of-line c =
 pub returns : goal.returns
 returns c =
     report_line c.args.line.now _ _ _ _ c.args.p.receiver c.offset_after.result _
-    c.told.ensures.0 c.told.ensures.1.0 c.told.ensures.1.1.0 c.told.ensures.1.1.1
+    c.told.ensures.player c.told.ensures.len c.told.ensures.over c.told.ensures.line
     ∙ ap₂ (λ (offset : ℕ) (r : Reported). printed_on c.args.line.now (report_act c.args.p.receiver offset r)) c.offset_after.ensures c.report_kept-r.ensures
     ∙ ap (printed_on c.args.line.now)
     (frame_reports c.args.p c.args.frame.now c.args.end c.args.rows.now c.args.message.now

@@ -41,7 +41,7 @@ at_frame-requires c =
     (c.in-Frame.start ≡ c.args.p.offset) × (c.in-Frame.end ≡ c.args.p.offset + size) × (c.args.p.offset + size ≤ length c.args.recording.now) × (0 < size) = frame_says c.args.recording.now c.args.p.offset (frame_len c.args.p.receiver.settings) c.in-Frame.start c.in-Frame.end
     (sym (found) ∙ c.in-Frame.is) in
     (
-      omega (arith, said, length-take (c.in-Frame.end - c.in-Frame.start) (drop (c.in-Frame.start) c.args.recording.now), length-drop (c.in-Frame.start) c.args.recording.now),
+      omega (arith, said, length-take (c.in-Frame.end - c.in-Frame.start) (drop c.in-Frame.start c.args.recording.now), length-drop c.in-Frame.start c.args.recording.now),
       c.requires,
     )
 
@@ -60,7 +60,7 @@ pub returns-in-Part : goal.returns-in-Part
 returns-in-Part c =
     let found : c.next_frame.result ≡ found_at c.args.recording.now c.args.p.offset (frame_len c.args.p.receiver.settings) = c.next_frame.ensures ∙ ap (found_at c.args.recording.now c.args.p.offset) c.frame_len.ensures in
     stop_line_lem c.args.line.now _ _ _ _ c.args.p c.args.rows.now c.args.message.now BadLength
-    c.stopped.ensures.0 c.stopped.ensures.1.0 c.stopped.ensures.1.1.0 c.stopped.ensures.1.1.1
+    c.stopped.ensures.player c.stopped.ensures.len c.stopped.ensures.over c.stopped.ensures.line
     ∙ ap (printed_on c.args.line.now)
     (parts c.args.p c.args.recording.now c.args.rows.now c.args.message.now (sym (found) ∙ c.in-Part.is))
 
@@ -81,5 +81,5 @@ returns-in-Frame c =
     let found : c.next_frame.result ≡ found_at c.args.recording.now c.args.p.offset (frame_len c.args.p.receiver.settings) = c.next_frame.ensures ∙ ap (found_at c.args.recording.now c.args.p.offset) c.frame_len.ensures in
     c.at_frame.ensures
     ∙ ap (printed_on c.args.line.now)
-    (stands c.args.p c.args.recording.now c.args.rows.now c.args.message.now (c.in-Frame.start) (c.in-Frame.end)
+    (stands c.args.p c.args.recording.now c.args.rows.now c.args.message.now c.in-Frame.start c.in-Frame.end
     (sym (found) ∙ c.in-Frame.is))

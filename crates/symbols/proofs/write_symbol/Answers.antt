@@ -37,12 +37,12 @@ pub answer-requires : goal.answer-requires
 answer-requires c =
     let shaped : Shape c.args.s = shape c.args.s c.requires.0.settings in
     let reduced : both c.eliminate-reduced.result c.eliminate-reduced.new.roles ≡ eliminated c.args.s (known_in c.args.s (read c)) = c.eliminate-reduced.ensures.reduced
-    ∙ located_eliminated c.args.s c.requires.0.settings (read c) _ _ _ c.requires.3 c.locate.ensures.1.0 c.locate.ensures.1.1 in
+    ∙ located_eliminated c.args.s c.requires.0.settings (read c) _ _ _ c.requires.3 c.locate.ensures.flags c.locate.ensures.roles in
     let reduced-by : both c.eliminate-reduced.result c.eliminate-reduced.new.roles ≡ reduced_of c.args.s (read c) = reduced ∙ eliminated_reduced c.args.s (read c) (is_true _ c.requires.0.settings) in
     let h = shaped in (
       record {
         settings = c.requires.0.settings;
-        inside = λ p below. subst⁻¹ (λ (l : List ℕ). get_or l p 0 + c.args.s.lanes ≤ length c.args.rows.now) c.locate.ensures.0
+        inside = λ p below. subst⁻¹ (λ (l : List ℕ). get_or l p 0 + c.args.s.lanes ≤ length c.args.rows.now) c.locate.ensures.places
             (omega (arith, c.requires.0.rows_exact, place_inside c.args.s h c.args.t c.args.i p below));
       },
       c.requires.2,
@@ -51,7 +51,7 @@ answer-requires c =
       subst⁻¹ (λ (x : Reduced). Own c.args.s x c.args.i) (reduced-by)
           (own_reduced c.args.s c.args.i c.requires.2 c.requires.0.settings (read c)),
       subst⁻¹ (ParityOnly c.args.s) c.eliminate-reduced.ensures.left
-          (located_only c.args.s c.requires.0.settings (read c) _ _ _ c.requires.3 c.locate.ensures.1.0 c.locate.ensures.1.1),
+          (located_only c.args.s c.requires.0.settings (read c) _ _ _ c.requires.3 c.locate.ensures.flags c.locate.ensures.roles),
     )
 
 pub shape_of-out : goal.shape_of-out
@@ -63,10 +63,10 @@ returns c =
     let shaped : Shape c.args.s = shape c.args.s c.requires.0.settings in
     let left_by : Unsolved c.args.s (read c) (eliminated c.args.s (known_in c.args.s (read c))).roles c.eliminate-reduced.new.flags = let h = shaped in
     subst⁻¹ (Unsolved c.args.s (read c) (eliminated c.args.s (known_in c.args.s (read c))).roles) c.eliminate-reduced.ensures.left
-    (located_left c.args.s c.requires.0.settings (read c) _ _ _ c.requires.3 c.locate.ensures.1.0 c.locate.ensures.1.1
+    (located_left c.args.s c.requires.0.settings (read c) _ _ _ c.requires.3 c.locate.ensures.flags c.locate.ensures.roles
     (λ q source. flag_cases c.args.s c.requires.0.settings c.args.rows.now c.args.due c.args.t c.args.i q (omega arith))) in
     let reduced : both c.eliminate-reduced.result c.eliminate-reduced.new.roles ≡ eliminated c.args.s (known_in c.args.s (read c)) = c.eliminate-reduced.ensures.reduced
-    ∙ located_eliminated c.args.s c.requires.0.settings (read c) _ _ _ c.requires.3 c.locate.ensures.1.0 c.locate.ensures.1.1 in
+    ∙ located_eliminated c.args.s c.requires.0.settings (read c) _ _ _ c.requires.3 c.locate.ensures.flags c.locate.ensures.roles in
     let flags : List ℕ = read c in
     let places : List ℕ = places_of c.args.s c.args.t c.args.i in
     let x : Reduced = eliminated c.args.s (known_in c.args.s flags) in

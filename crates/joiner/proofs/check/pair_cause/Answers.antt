@@ -41,14 +41,14 @@ returns-then-found-ne0 c =
     let settled : accepted c.args.s ≡ true = sym c.accepted.ensures ∙ c.if-not-accepted.false in
     let lengths : (c.unfit.result || c.unfit-2.result) ≡ (unfit c.args.s c.args.first.now || unfit c.args.s c.args.second.now) = ap₂ ◌||◌ c.unfit.ensures c.unfit-2.ensures in
     let fitting : (unfit c.args.s c.args.first.now || unfit c.args.s c.args.second.now) ≡ false = sym (lengths) ∙ c.if-unfit.false in
-    let met : c.frame_cause-found.result ≡ three (marks c) (settings c) (slots c) 0 = c.frame_cause-found.ensures ∙ three_by (ap₂ ◌||◌ c.walk.ensures.0 c.walk-2.ensures.0) (ap₂ ◌||◌ c.walk.ensures.1.0 c.walk-2.ensures.1.0) (ap₂ ◌||◌ c.walk.ensures.1.1 c.walk-2.ensures.1.1) in
+    let met : c.frame_cause-found.result ≡ three (marks c) (settings c) (slots c) 0 = c.frame_cause-found.ensures ∙ three_by (ap₂ ◌||◌ c.walk.ensures.mark c.walk-2.ensures.mark) (ap₂ ◌||◌ c.walk.ensures.settings c.walk-2.ensures.settings) (ap₂ ◌||◌ c.walk.ensures.falling c.walk-2.ensures.falling) in
     rw (settled, fitting)
     (met
     ∙ sym (some_of_three (marks c) (settings c) (slots c) _ (λ z. absurd (omega (arith, met, c.if-found-ne0.true)))))
 
 pub unlike-requires : goal.unlike-requires
 unlike-requires c =
-    let met : c.frame_cause-found.result ≡ three (marks c) (settings c) (slots c) 0 = c.frame_cause-found.ensures ∙ three_by (ap₂ ◌||◌ c.walk.ensures.0 c.walk-2.ensures.0) (ap₂ ◌||◌ c.walk.ensures.1.0 c.walk-2.ensures.1.0) (ap₂ ◌||◌ c.walk.ensures.1.1 c.walk-2.ensures.1.1) in
+    let met : c.frame_cause-found.result ≡ three (marks c) (settings c) (slots c) 0 = c.frame_cause-found.ensures ∙ three_by (ap₂ ◌||◌ c.walk.ensures.mark c.walk-2.ensures.mark) (ap₂ ◌||◌ c.walk.ensures.settings c.walk-2.ensures.settings) (ap₂ ◌||◌ c.walk.ensures.falling c.walk-2.ensures.falling) in
     let clear-frames : (marks c ≡ false) × (settings c ≡ false) × (slots c ≡ false) = none_of_three (marks c) (settings c) (slots c) (sym (met) ∙ omega (arith, c.if-found-ne0.false)) in
     let settled : accepted c.args.s ≡ true = sym c.accepted.ensures ∙ c.if-not-accepted.false in
     let rise = neither (falling c.args.s c.args.first.now) (falling c.args.s c.args.second.now) (clear-frames).2 in
@@ -57,7 +57,7 @@ unlike-requires c =
 pub returns-then-unlike : goal.returns-then-unlike
 unfolding pair_cause
 returns-then-unlike c =
-    let met : c.frame_cause-found.result ≡ three (marks c) (settings c) (slots c) 0 = c.frame_cause-found.ensures ∙ three_by (ap₂ ◌||◌ c.walk.ensures.0 c.walk-2.ensures.0) (ap₂ ◌||◌ c.walk.ensures.1.0 c.walk-2.ensures.1.0) (ap₂ ◌||◌ c.walk.ensures.1.1 c.walk-2.ensures.1.1) in
+    let met : c.frame_cause-found.result ≡ three (marks c) (settings c) (slots c) 0 = c.frame_cause-found.ensures ∙ three_by (ap₂ ◌||◌ c.walk.ensures.mark c.walk-2.ensures.mark) (ap₂ ◌||◌ c.walk.ensures.settings c.walk-2.ensures.settings) (ap₂ ◌||◌ c.walk.ensures.falling c.walk-2.ensures.falling) in
     let clear-frames : (marks c ≡ false) × (settings c ≡ false) × (slots c ≡ false) = none_of_three (marks c) (settings c) (slots c) (sym (met) ∙ omega (arith, c.if-found-ne0.false)) in
     let settled : accepted c.args.s ≡ true = sym c.accepted.ensures ∙ c.if-not-accepted.false in
     let lengths : (c.unfit.result || c.unfit-2.result) ≡ (unfit c.args.s c.args.first.now || unfit c.args.s c.args.second.now) = ap₂ ◌||◌ c.unfit.ensures c.unfit-2.ensures in
@@ -68,7 +68,7 @@ returns-then-unlike c =
 pub returns : goal.returns
 unfolding pair_cause
 returns c =
-    let met : c.frame_cause-found.result ≡ three (marks c) (settings c) (slots c) 0 = c.frame_cause-found.ensures ∙ three_by (ap₂ ◌||◌ c.walk.ensures.0 c.walk-2.ensures.0) (ap₂ ◌||◌ c.walk.ensures.1.0 c.walk-2.ensures.1.0) (ap₂ ◌||◌ c.walk.ensures.1.1 c.walk-2.ensures.1.1) in
+    let met : c.frame_cause-found.result ≡ three (marks c) (settings c) (slots c) 0 = c.frame_cause-found.ensures ∙ three_by (ap₂ ◌||◌ c.walk.ensures.mark c.walk-2.ensures.mark) (ap₂ ◌||◌ c.walk.ensures.settings c.walk-2.ensures.settings) (ap₂ ◌||◌ c.walk.ensures.falling c.walk-2.ensures.falling) in
     let clear-frames : (marks c ≡ false) × (settings c ≡ false) × (slots c ≡ false) = none_of_three (marks c) (settings c) (slots c) (sym (met) ∙ omega (arith, c.if-found-ne0.false)) in
     let settled : accepted c.args.s ≡ true = sym c.accepted.ensures ∙ c.if-not-accepted.false in
     let lengths : (c.unfit.result || c.unfit-2.result) ≡ (unfit c.args.s c.args.first.now || unfit c.args.s c.args.second.now) = ap₂ ◌||◌ c.unfit.ensures c.unfit-2.ensures in

@@ -23,6 +23,7 @@ use Rattle.places.proofs.Places.{place_of, row_ends, row_next, first_inside, row
 use Rattle.places.proofs.Flags.{flag_at}
 use Rattle.places.proofs.starts.place_sources.Invariants.{role_of}
 use Rattle.places.proofs.starts.place_sources.Goals as goal
+use Rattle.places.proofs.starts.place_sources.Goals.{then-known_flag-eq1, else-known_flag-eq1}
 
 pub overflow_cast-lanes : goal.overflow_cast-lanes
 overflow_cast-lanes c =
@@ -135,21 +136,23 @@ loop-p-preserved c =
     let is : c.known_flag.result ≡ get_or read c.loop-p.p 0 =
     c.known_flag.ensures ∙ ap (known_flag c.args.rows.now c.args.end (c.args.t + c.loop-p.p)) c.loop-p.invariant.2
     ∙ sym (flag_at c.args.s c.loop-p.invariant.0 c.args.t c.args.i c.loop-p.p (omega arith) c.args.rows.now c.args.end) in
-    let next : ℕ → ℕ = λ row. cond (ltb (row + row_len c.args.s) (receiver_len c.args.s)) (row + row_len c.args.s) 0 in (
+    let next : ℕ → ℕ = λ row. cond (ltb (row + row_len c.args.s) (receiver_len c.args.s)) (row + row_len c.args.s) 0 in
+    let step : c.if-known_flag-eq1.roles ≡ table 16 (up_to 16 (c.loop-p.p + 1) (role_of c.args.s read)) =
+    elim c.if-known_flag-eq1.branch [
+      | then-known_flag-eq1 w ↦ w.roles-is
+          ∙ filled_next 16 c.loop-p.p (role_of c.args.s read) c.loop-p.roles c.loop-p.p (few).0 c.loop-p.invariant.5
+          (rw (lt-ltb c.loop-p.p (k_of c.args.s) source, eq-eqb (get_or read c.loop-p.p 0) 1 (omega (arith, is))))
+      | else-known_flag-eq1 w ↦ w.roles-is ∙ c.loop-p.invariant.5
+          ∙ filled_kept 16 c.loop-p.p (role_of c.args.s read)
+          (rw (lt-ltb c.loop-p.p (k_of c.args.s) source, ne_eqb (get_or read c.loop-p.p 0) 1 (λ one. omega (arith, is))))
+    ] in (
       c.loop-p.invariant.0,
       omega arith,
       c.next_start-start.ensures ∙ ap next c.loop-p.invariant.2 ∙ row_next c.args.s c.loop-p.invariant.0 c.args.t c.args.i c.loop-p.p c.requires.1,
       rw (add-one c.loop-p.p) (omega (arith, c.loop-p.invariant.3, suc-mul c.loop-p.p c.args.s.lanes)),
       filled_next 0 c.loop-p.p (place_of c.args.s c.args.t c.args.i) c.loop-p.places (c.loop-p.start + c.loop-p.offset) (few).0 c.loop-p.invariant.4
           (omega (arith, c.loop-p.invariant.2, c.loop-p.invariant.3)),
-      ⊎_elim
-          (λ way. way.1
-          ∙ filled_next 16 c.loop-p.p (role_of c.args.s read) c.loop-p.roles c.loop-p.p (few).0 c.loop-p.invariant.5
-          (rw (lt-ltb c.loop-p.p (k_of c.args.s) source, eq-eqb (get_or read c.loop-p.p 0) 1 (omega (arith, is)))))
-          (λ way. way.1 ∙ c.loop-p.invariant.5
-          ∙ filled_kept 16 c.loop-p.p (role_of c.args.s read)
-          (rw (lt-ltb c.loop-p.p (k_of c.args.s) source, ne_eqb (get_or read c.loop-p.p 0) 1 (λ one. omega (arith, is)))))
-          c.if-known_flag-eq1.branch,
+      step,
     )
 
 pub returns : goal.returns
@@ -161,4 +164,4 @@ returns c =
     let roles =
     c.loop-p.invariant.5 ∙ filled_all 16 c.loop-p.p (role_of c.args.s read) (λ q past. rw (le-ltb q (k_of c.args.s) (omega arith)))
     ∙ first_flags c.args.s c.loop-p.invariant.0 read in
-    (c.loop-p.invariant.2 ∙ ap (row_at c.args.s c.args.t c.args.i) all, (places, roles))
+    record { next = c.loop-p.invariant.2 ∙ ap (row_at c.args.s c.args.t c.args.i) all; places = places; roles = roles }
