@@ -1,5 +1,5 @@
 -- Each way out is one case of the decision.
-use borrow.Author.Tests.{not_true, not-false, eqb-true, eqb-false}
+use borrow.Author.Tests.{not-true, not-false, eqb-true, eqb-false}
 use mathlib.Core.Path.{◌≡◌, sym, ap, ◌∙◌, subst⁻¹}
 use mathlib.Core.Logic.{⊎_elim}
 use native.Mathlib.Omega.{arith}
@@ -15,7 +15,7 @@ use Rattle.decision.proofs.decide.Goals as goal
 pub returns-then-not-accepted : goal.returns-then-not-accepted
 returns-then-not-accepted c =
     bad_settings c.args.s c.args.rows.now c.args.due c.args.t c.args.message.now
-    (sym c.accepted.ensures ∙ not_true c.accepted.result c.if-not-accepted.true)
+    (sym c.accepted.ensures ∙ c.if-not-accepted.true)
 
 pub returns-then-rows-receiver_len : goal.returns-then-rows-receiver_len
 returns-then-rows-receiver_len c =
@@ -25,7 +25,7 @@ returns-then-rows-receiver_len c =
     (λ w. bad_rows c.args.s c.args.rows.now c.args.due c.args.t c.args.message.now ok
     (λ same. w.taken (same ∙ sym c.receiver_len.ensures)))
     (λ w. bad_message c.args.s c.args.rows.now c.args.due c.args.t c.args.message.now ok (w.0.left ∙ c.receiver_len.ensures)
-    (λ same. eqb-false (length c.args.message.now) w.1.result (not_true _ w.2.taken) (same ∙ sym w.1.ensures)))
+    (λ same. eqb-false (length c.args.message.now) w.1.result (not-true _ w.2.taken) (same ∙ sym w.1.ensures)))
     c.then-rows-receiver_len.branch
 
 pub decided-requires : goal.decided-requires

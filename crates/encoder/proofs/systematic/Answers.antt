@@ -3,7 +3,7 @@ use mathlib.Core.Path.{◌≡◌, refl, sym, ◌∙◌, subst⁻¹}
 use mathlib.Core.List.{[]}
 use mathlib.Core.Logic.{⊎_elim}
 use lib.Dec.{T}
-use borrow.Author.Tests.{not_true, not-false}
+use borrow.Author.Tests.{not-true, not-false}
 use native.Mathlib.Omega.{arith}
 use Prim.Native.Nat.{ℕ, ◌+◌, ◌-◌, ◌<◌, ◌≤◌}
 use lib.ListN.{length, get_or, length-set}
@@ -20,7 +20,7 @@ use Rattle.encoder.proofs.systematic.Goals as goal
 pub returns-then-not-accepted : goal.returns-then-not-accepted
 unfolding table
 returns-then-not-accepted c =
-    systematic_refused c.args.s (sym c.accepted.ensures ∙ not_true c.accepted.result c.if-not-accepted.true)
+    systematic_refused c.args.s (sym c.accepted.ensures ∙ c.if-not-accepted.true)
 
 pub loop-i-init : goal.loop-i-init
 unfolding table

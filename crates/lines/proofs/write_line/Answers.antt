@@ -1,6 +1,6 @@
 -- A line without room for the longest stays; else the line of the report is written.
 use borrow.Author.Rules.{rules}
-use borrow.Author.Tests.{not_true, not-false, leb-false}
+use borrow.Author.Tests.{not-true, not-false, leb-false}
 use mathlib.Core.Path.{◌≡◌, sym, ap₂, ◌∙◌, subst⁻¹}
 use mathlib.Core.Bool.{true, false}
 use mathlib.Core.List.{List}
@@ -17,7 +17,7 @@ lent line len = record { line = line; len = len }
 pub returns-then-not-has_room : goal.returns-then-not-has_room
 unfolding longest
 returns-then-not-has_room c =
-    let failed : c.has_room.result ≡ false = search not_true in
+    let failed : c.has_room.result ≡ false = search not-true in
     line_stays c.args.about c.args.reply c.args.message.now c.args.line.now
     (leb-false (18 + 2 * length c.args.message.now) (length c.args.line.now)
     (sym c.has_room.ensures ∙ failed))

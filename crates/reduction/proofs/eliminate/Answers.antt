@@ -1,6 +1,6 @@
 -- The loop does one parity position a turn, and clears its flag where it becomes a pivot.
 use borrow.Author.Rules.{rules}
-use borrow.Author.Tests.{not_true, not-false}
+use borrow.Author.Tests.{not-true, not-false}
 use mathlib.Core.Path.{◌≡◌, refl, sym, ap, ap₂, ◌∙◌, subst⁻¹}
 use mathlib.Core.Bool.{true, false}
 use mathlib.Core.List.{List}
@@ -21,7 +21,7 @@ pub returns-then-not-accepted : goal.returns-then-not-accepted
 returns-then-not-accepted c =
     let x = both c.args.matrix c.args.roles.now in
     let refused : accepted c.args.s ≡ false =
-    sym c.accepted.ensures ∙ not_true c.accepted.result c.if-not-accepted.true in
+    sym c.accepted.ensures ∙ c.if-not-accepted.true in
     record {
       reduced = reduced_refused c.args.s x c.args.flags.now refused;
       left = left_refused c.args.s x c.args.flags.now refused;

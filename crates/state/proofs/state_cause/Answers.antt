@@ -1,6 +1,6 @@
 -- Each way out is one entry of the table of causes.
 use borrow.Author.Rules.{rules}
-use borrow.Author.Tests.{eq-eqb, ne_eqb, not_true, not-false}
+use borrow.Author.Tests.{eq-eqb, ne_eqb, not-true, not-false}
 use mathlib.Core.Path.{sym, ◌∙◌}
 use native.Mathlib.Omega.{arith}
 use lib.ListN.{length}
@@ -17,7 +17,7 @@ unfolding state_cause
 returns-then-not-is_marked c =
     rw (
       eq-eqb (length c.args.state.now) state_len (omega (arith, c)),
-      sym c.is_marked.ensures ∙ not_true c.is_marked.result c.if-not-is_marked.true,
+      sym c.is_marked.ensures ∙ c.if-not-is_marked.true,
     )
 
 pub returns : goal.returns

@@ -1,6 +1,6 @@
 -- Each way out is one entry of the opening's table.
 use borrow.Author.Rules.{rules}
-use borrow.Author.Tests.{eq-eqb, ne_eqb, not_true, not-false}
+use borrow.Author.Tests.{eq-eqb, ne_eqb, not-true, not-false}
 use mathlib.Core.Path.{◌≡◌, sym, ◌∙◌}
 use mathlib.Core.Bool.{true}
 use lib.ListN.{length}
@@ -11,7 +11,7 @@ use Rattle.causes.proofs.opening.open_cause.Goals as goal
 pub returns-then-not-accepted : goal.returns-then-not-accepted
 unfolding open_cause
 returns-then-not-accepted c =
-    rw (sym c.accepted.ensures ∙ not_true c.accepted.result c.if-not-accepted.true)
+    rw (sym c.accepted.ensures ∙ c.if-not-accepted.true)
 
 pub returns-then-rows-size : goal.returns-then-rows-size
 unfolding open_cause

@@ -1,6 +1,6 @@
 -- A cause that every call in a slot meets is the first, then one of the header, then the slot.
 use borrow.Author.Rules.{rules}
-use borrow.Author.Tests.{not_true, not-false}
+use borrow.Author.Tests.{not-true, not-false}
 use mathlib.Core.Path.{◌≡◌, sym, ap, ◌∙◌}
 use mathlib.Core.Bool.{Bool}
 use native.Mathlib.Omega.{arith}
@@ -76,7 +76,7 @@ returns-then-not-agrees c =
     let headed : header_cause c.args.version c.args.x.settings c.args.frame.now ≡ answer.Accepted = sym c.header_cause-headed.ensures ∙ c.in_default-headed.is in
     let tested : c.agrees.result ≡ of_slot c.args.version c.args.x c.args.rows.now c.args.frame.now c.args.message.now = c.agrees.ensures ∙ slot_test c.args.version c.args.x.settings c.args.x.due c.args.frame.now _ c.header_bytes.ensures in
     other_slot c.args.version c.args.x c.args.rows.now c.args.frame.now c.args.message.now (clear) (headed)
-    (sym (tested) ∙ not_true c.agrees.result c.if-not-agrees.true)
+    (sym (tested) ∙ c.if-not-agrees.true)
 
 pub returns : goal.returns
 returns c =

@@ -1,6 +1,6 @@
 -- Each way out is one entry of the table of a call in a slot.
 use borrow.Author.Rules.{rules}
-use borrow.Author.Tests.{lt-ltb, le-ltb, not_true, not-false}
+use borrow.Author.Tests.{lt-ltb, le-ltb, not-true, not-false}
 use mathlib.Core.Path.{◌≡◌, sym, ◌∙◌}
 use mathlib.Core.Bool.{true}
 use Rattle.code.specs.Settings.{accepted}
@@ -11,13 +11,13 @@ use Rattle.causes.proofs.slots.slot_cause.Goals as goal
 pub returns-then-not-accepted : goal.returns-then-not-accepted
 unfolding slot_cause
 returns-then-not-accepted c =
-    rw (sym c.accepted.ensures ∙ not_true c.accepted.result c.if-not-accepted.true)
+    rw (sym c.accepted.ensures ∙ c.if-not-accepted.true)
 
 pub returns-then-not-exact : goal.returns-then-not-exact
 unfolding slot_cause
 returns-then-not-exact c =
     let settled : accepted c.args.s ≡ true = sym c.accepted.ensures ∙ c.if-not-accepted.false in
-    rw (settled, not_true c.args.exact c.if-not-exact.true)
+    rw (settled, c.if-not-exact.true)
 
 pub returns-then-due : goal.returns-then-due
 unfolding slot_cause last_slot

@@ -1,5 +1,5 @@
 -- Each turn compares one part, and the rest lies in one or two more.
-use borrow.Author.Tests.{not_true, not-false}
+use borrow.Author.Tests.{not-true, not-false}
 use mathlib.Core.Path.{◌≡◌, refl, sym, ap₂, ◌∙◌}
 use mathlib.Core.Bool.{◌&&◌}
 use mathlib.Core.List.{List}
@@ -25,7 +25,7 @@ pub returns-then-not-same_part : goal.returns-then-not-same_part
 returns-then-not-same_part c =
     sym
     (part_differs c.args.a.now c.args.b.now (length c.args.a.now) c.loop-k.k 32 (omega (arith, c.loop-k-test.true))
-    (sym c.same_part.ensures ∙ not_true c.same_part.result c.if-not-same_part.true))
+    (sym c.same_part.ensures ∙ c.if-not-same_part.true))
 
 pub overflow_add-k : goal.overflow_add-k
 overflow_add-k c =

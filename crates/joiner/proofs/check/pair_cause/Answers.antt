@@ -1,6 +1,6 @@
 -- Each way out is a row of the table.
 use borrow.Author.Rules.{rules}
-use borrow.Author.Tests.{not_true, not-false}
+use borrow.Author.Tests.{not-true, not-false}
 use mathlib.Core.Path.{◌≡◌, sym, ap₂, ◌∙◌}
 use mathlib.Core.Bool.{Bool, true, false, ◌||◌}
 use native.Mathlib.Omega.{arith}
@@ -26,7 +26,7 @@ slots c = let a = (start c).args in falling a.s a.first.now || falling a.s a.sec
 pub returns-then-not-accepted : goal.returns-then-not-accepted
 unfolding pair_cause
 returns-then-not-accepted c =
-    rw (sym c.accepted.ensures ∙ not_true c.accepted.result c.if-not-accepted.true)
+    rw (sym c.accepted.ensures ∙ c.if-not-accepted.true)
 
 pub returns-then-unfit : goal.returns-then-unfit
 unfolding pair_cause

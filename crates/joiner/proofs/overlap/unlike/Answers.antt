@@ -1,6 +1,6 @@
 -- Each turn passes a frame, or two that stand for one slot and are alike.
 use borrow.Author.Rules.{rules}
-use borrow.Author.Tests.{not_true, not-false}
+use borrow.Author.Tests.{not-true, not-false}
 use mathlib.Core.Path.{◌≡◌, sym, ap, ◌∙◌}
 use mathlib.Core.List.{List}
 use native.Mathlib.Omega.{arith}
@@ -124,7 +124,7 @@ returns-then-not-alike c =
     c.alike.ensures ∙ alike_by _ _ _ _ _ _ size c.frame_of-a.ensures.bytes c.frame_of-b.ensures.bytes in
     sym
     (one_unlike c.args.s c.args.first.now c.args.second.now c.loop-i.i c.loop-i.j (in-first) (in-second) (same_slot)
-    (sym (compared) ∙ not_true c.alike.result c.if-not-alike.true))
+    (sym (compared) ∙ c.if-not-alike.true))
 
 pub overflow_add-i-else-y-x : goal.overflow_add-i-else-y-x
 overflow_add-i-else-y-x c =

@@ -1,12 +1,12 @@
 -- The length where the settings are accepted, else 0.
 use borrow.Author.Rules.{rules}
-use borrow.Author.Tests.{not_true, not-false}
+use borrow.Author.Tests.{not-true, not-false}
 use mathlib.Core.Path.{sym, ◌∙◌}
 use Rattle.layout.proofs.lengths.or_zero.Goals as goal
 
 pub returns-then-not-accepted : goal.returns-then-not-accepted
 returns-then-not-accepted c =
-    rw (sym c.accepted.ensures ∙ not_true c.accepted.result c.if-not-accepted.true)
+    rw (sym c.accepted.ensures ∙ c.if-not-accepted.true)
 
 pub returns : goal.returns
 returns c =

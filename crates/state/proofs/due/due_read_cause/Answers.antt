@@ -1,6 +1,6 @@
 -- Each way out is one entry of the table.
 use borrow.Author.Rules.{rules}
-use borrow.Author.Tests.{eq-eqb, ne_eqb, not_true, not-false}
+use borrow.Author.Tests.{eq-eqb, ne_eqb, not-true, not-false}
 use mathlib.Core.Path.{◌≡◌, sym, ap, ◌∙◌}
 use mathlib.Core.Bool.{true}
 use native.Mathlib.Omega.{arith}
@@ -20,7 +20,7 @@ pub returns-then-not-is_either : goal.returns-then-not-is_either
 unfolding due_read_cause
 returns-then-not-is_either c =
     let sized : eqb (length c.args.state.now) state_len ≡ true = eq-eqb (length c.args.state.now) state_len (omega (arith, c)) in
-    rw (sized, sym c.is_either.ensures ∙ not_true c.is_either.result c.if-not-is_either.true)
+    rw (sized, sym c.is_either.ensures ∙ c.if-not-is_either.true)
 
 pub returns-then-not-accepted : goal.returns-then-not-accepted
 unfolding due_read_cause
@@ -28,7 +28,7 @@ returns-then-not-accepted c =
     let sized : eqb (length c.args.state.now) state_len ≡ true = eq-eqb (length c.args.state.now) state_len (omega (arith, c)) in
     let marked : either_mark c.args.state.now ≡ true = sym c.is_either.ensures ∙ c.if-not-is_either.false in
     let settled : c.accepted.result ≡ accepted (settings_at 4 c.args.state.now) = c.accepted.ensures ∙ ap accepted c.settings_at.ensures in
-    rw (sized, marked, sym (settled) ∙ not_true c.accepted.result c.if-not-accepted.true)
+    rw (sized, marked, sym (settled) ∙ c.if-not-accepted.true)
 
 pub returns : goal.returns
 unfolding due_read_cause

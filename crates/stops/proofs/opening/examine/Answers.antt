@@ -1,6 +1,6 @@
 -- Each way out is one case of the start.
 use borrow.Author.Rules.{rules}
-use borrow.Author.Tests.{not_true, not-false}
+use borrow.Author.Tests.{not-true, not-false}
 use mathlib.Core.Path.{◌≡◌, sym, ap, ◌∙◌, subst⁻¹}
 use mathlib.Core.Logic.{◌≢◌}
 use native.Mathlib.Omega.{arith}
@@ -33,7 +33,7 @@ returns-then-not-accepted c =
     let headed : 14 ≤ length c.args.recording.now = omega arith in
     let short : length c.args.recording.now ≤ 65536 = omega arith in
     starts_refused c.args.recording.now (some) (headed) (short)
-    (ap accepted (sym c.settings_at-s.ensures) ∙ sym c.accepted.ensures ∙ not_true c.accepted.result c.if-not-accepted.true)
+    (ap accepted (sym c.settings_at-s.ensures) ∙ sym c.accepted.ensures ∙ c.if-not-accepted.true)
 
 pub returns-then-recording-frame_len-ne0 : goal.returns-then-recording-frame_len-ne0
 returns-then-recording-frame_len-ne0 c =

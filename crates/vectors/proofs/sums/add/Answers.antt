@@ -24,7 +24,7 @@ loop-v-preserved c =
       filled_more (λ i. get_or c.args.sum.now i 0 ⊕ get_or c.args.vector.now i 0) 0 c.loop-v.sum c.loop-v.v _ (omega arith) value c.loop-v.invariant.2,
       kept_more (λ i. get_or c.args.sum.now i 0) 0 c.loop-v.sum c.loop-v.v _ c.loop-v.invariant.3,
       λ i h.
-          ⊎_elim (λ same. rw same c.plus.ensures.byte) (λ below. c.loop-v.invariant.4 i below) (eq-or-lt_of_le (le_of_suc-le-suc (rw add-one c.loop-v h))),
+          ⊎_elim (λ same. rw same c.plus.ensures.byte) (λ below. c.loop-v.invariant.4 i below) (eq-or-lt_of_le (le_of_suc-le-suc (rw add-one at h))),
     )
 
 pub returns : goal.returns
