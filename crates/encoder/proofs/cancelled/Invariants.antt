@@ -1,15 +1,11 @@
 -- The loop adds one multiple a turn: before m it has cancelled the source symbols i + 1 to m - 1.
-use borrow.Author.Rules.{rules}
-use mathlib.Core.Path.{◌≡◌, sym, ap, ◌∙◌}
+use mathlib.Core.Path.{◌≡◌}
 use mathlib.Core.List.{List, []}
-use native.Mathlib.Omega.{arith}
-use Prim.Native.Nat.{ℕ, suc, ◌+◌, ◌-◌, ◌≤◌}
-use lib.ListN.{length, get_or}
+use Prim.Native.Nat.{ℕ, ◌+◌, ◌-◌, ◌≤◌}
+use lib.ListN.{get_or}
 use Rattle.galois.specs.Byte.{◌⊕◌, ◌⊗◌}
 use Rattle.galois.specs.Sum.{sum}
-use Rattle.galois.proofs.Xor.{plus_assoc, plus_zero}
 use Rattle.galois.specs.Table.{table}
-use Rattle.galois.proofs.ByIndex.{is_table, get_or-table, table_equal}
 use Rattle.encoder.proofs.cancelled.Given as goal
 
 abbrev pub reached : List ℕ → List (List ℕ) → ℕ → ℕ → ℕ → ℕ

@@ -1,11 +1,8 @@
 -- The loop fills the sums from the front.
-use mathlib.Core.Path.{◌≡◌, refl, ap, ◌∙◌}
-use native.Mathlib.Nat.{not-suc-le-zero}
-use native.Mathlib.Omega.{arith}
-use Prim.Native.Nat.{ℕ, ◌-◌, ◌<◌, ◌≤◌, zero-le}
-use lib.ListN.{length, get_or, length-set}
+use mathlib.Core.Path.{◌≡◌}
+use Prim.Native.Nat.{ℕ, ◌-◌, ◌<◌, ◌≤◌}
+use lib.ListN.{length, get_or}
 use Rattle.galois.specs.Byte.{◌⊕◌, ◌⊗◌}
-use Rattle.galois.proofs.ByIndex.{is_table, filled_more}
 use Rattle.encoder.proofs.plus_multiple.Given as goal
 
 abbrev pub invariant-loop-j : goal.invariant-loop-j

@@ -3,14 +3,12 @@ use mathlib.Core.Path.{◌≡◌, refl, sym, ◌∙◌, subst⁻¹}
 use mathlib.Core.List.{[]}
 use mathlib.Core.Logic.{⊎_elim}
 use lib.Dec.{T}
-use borrow.Author.Tests.{not-true, not-false}
 use native.Mathlib.Omega.{arith}
 use Prim.Native.Nat.{ℕ, ◌+◌, ◌-◌, ◌<◌, ◌≤◌}
-use lib.ListN.{length, get_or, length-set}
-use Rattle.code.specs.Settings.{k_of}
+use lib.ListN.{get_or, length-set}
 use Rattle.galois.specs.Table.{table}
 use Rattle.code.specs.Word.{symbol, unit}
-use Rattle.code.proofs.Shape.{Shape, shape}
+use Rattle.code.proofs.Shape.{shape}
 use Rattle.galois.proofs.ByIndex.{is_table, get_or-table, table_equal}
 use Rattle.code.proofs.Systematic.{unit_outside, systematic_accepted, systematic_refused}
 use Rattle.generator.proofs.Filled.{filled_before}
