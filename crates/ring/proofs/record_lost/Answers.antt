@@ -1,11 +1,11 @@
 -- The row lies within the rows, since it is below k + T.
 use borrow.Author.Rules.{rules}
-use mathlib.Core.Path.{◌≡◌, ap₂, ◌∙◌}
-use mathlib.Core.List.{List, ◌++◌}
+use mathlib.Core.Path.{ap₂, ◌∙◌}
+use mathlib.Core.List.{◌++◌}
 use native.Mathlib.Nat.{mod-lt}
 use native.Mathlib.Omega.{arith}
 use Prim.Native.Nat.{ℕ, ◌+◌, ◌*◌, ◌%◌, ◌≤◌}
-use lib.ListN.{length, take, drop, replicate}
+use lib.ListN.{take, drop, replicate}
 use Rattle.code.specs.declared.settings.Settings.{Settings}
 use Rattle.protocol.specs.Lengths.{row_len, row_count, receiver_len}
 use Rattle.protocol.specs.Rows.{put_row}

@@ -3,8 +3,8 @@ use mathlib.Core.Path.{◌≡◌, refl, sym, ap, ◌∙◌}
 use mathlib.Core.List.{List, ◌++◌}
 use native.Mathlib.Numerals.{add-one}
 use native.Mathlib.Omega.{arith}
-use Prim.Native.Nat.{ℕ, ◌+◌, ◌-◌, ◌<◌, ◌≤◌, zero-le}
-use lib.ListN.{length, get_or, set, take, drop, replicate, length-set, length-replicate, get_or-replicate}
+use Prim.Native.Nat.{ℕ, ◌+◌, zero-le}
+use lib.ListN.{length, set, take, drop, replicate, length-set, length-replicate, get_or-replicate}
 use lib.Seq.{paste, paste-zero, paste-suc, take_all}
 use Rattle.ring.proofs.write_lost.Goals as goal
 

@@ -1,10 +1,7 @@
 -- The loop fills the rows from the front.
-use mathlib.Core.Path.{◌≡◌, refl}
-use native.Mathlib.Nat.{not-suc-le-zero}
-use native.Mathlib.Omega.{arith}
-use Prim.Native.Nat.{ℕ, ◌-◌, ◌<◌, ◌≤◌, zero-le}
-use lib.ListN.{length, get_or, length-set}
-use Rattle.galois.proofs.ByIndex.{is_table, filled_more}
+use mathlib.Core.Path.{◌≡◌}
+use Prim.Native.Nat.{ℕ, ◌-◌, ◌<◌, ◌≤◌}
+use lib.ListN.{length, get_or}
 use Rattle.ring.specs.Bytes.{opened_byte}
 use Rattle.ring.proofs.write_opened.Given as goal
 

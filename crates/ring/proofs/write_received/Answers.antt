@@ -1,7 +1,6 @@
 -- The mark is stored, and then the body is pasted after it.
-use borrow.Author.Rules.{rules}
-use mathlib.Core.Path.{◌≡◌, refl, sym, ap, ap₂, ◌∙◌}
-use mathlib.Core.List.{List, [], ◌∷◌, ◌++◌}
+use mathlib.Core.Path.{◌≡◌, ap, ap₂, ◌∙◌}
+use mathlib.Core.List.{List, ◌∷◌, ◌++◌}
 use native.Mathlib.Numerals.{add-one}
 use native.Mathlib.Omega.{arith}
 use Prim.Native.Nat.{ℕ, ◌+◌, ◌<◌}
@@ -22,10 +21,6 @@ mark_and_body rows body start inside =
 pub write_at-requires : goal.write_at-requires
 write_at-requires c =
     simp length-set (omega arith)
-
-pub shape_of-rows : goal.shape_of-rows
-shape_of-rows c =
-    c.rows-1.given ∙ length-set c.args.rows.now c.args.start 1
 
 pub returns : goal.returns
 returns c =
