@@ -1,5 +1,4 @@
 -- The table of a call in a slot, with the lengths of this one.
-use borrow.Author.Rules.{rules}
 use mathlib.Core.Path.{ap, ◌∙◌}
 use mathlib.Core.Bool.{Bool}
 use Prim.Native.Nat.{ℕ}
