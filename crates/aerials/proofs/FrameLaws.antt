@@ -1,7 +1,7 @@
 -- The frames of a recording: each lies inside it, and is a frame's length.
 use mathlib.Core.Path.{◌≡◌}
 use mathlib.Core.List.{List}
-use Prim.Native.Nat.{ℕ, ◌+◌, ◌-◌, ◌*◌, ◌≤◌, ◌<◌}
+use Prim.Native.Nat.{ℕ, ◌+◌, ◌*◌, ◌≤◌, ◌<◌}
 use native.Mathlib.Nat.{suc-mul, mul-le-mul, mul-le-mul_right, div-mul-le_self, div-le_self}
 use native.Mathlib.Omega.{arith}
 use lib.Dec.{T}

@@ -1,13 +1,12 @@
 -- The loop has found no difference so far.
-use borrow.Author.Rules.{rules}
 use borrow.Author.Tests.{eq-eqb}
-use mathlib.Core.Path.{◌≡◌, sym, ap, ◌∙◌, subst, subst⁻¹}
+use mathlib.Core.Path.{◌≡◌, sym, ap, ◌∙◌, subst⁻¹}
 use mathlib.Core.Bool.{Bool}
 use mathlib.Core.List.{List}
 use mathlib.Core.Logic.{⊎_elim}
 use native.Mathlib.Nat.{eq-or-lt_of_le}
 use native.Mathlib.Omega.{arith}
-use Prim.Native.Nat.{ℕ, ◌-◌, ◌<◌, ◌≤◌}
+use Prim.Native.Nat.{ℕ, ◌≤◌}
 use lib.Dec.{T, eqb, eqb→eq}
 use lib.ListN.{get_or}
 use Rattle.galois.specs.Bounded.{every}
@@ -37,19 +36,18 @@ returns-then-bytes-i c =
     ∙ sym (byte_of c.mark_of-mark.result c.args.end c.mark_of-mark.ensures c.loop-i.i))))
 
 pub loop-i-preserved : goal.loop-i-preserved
-loop-i-preserved c =
-    (
-      omega arith,
-      λ j h.
-          let upto : j ≤ c.loop-i.i = omega arith in
-          ⊎_elim
-          (λ here.
-          subst⁻¹
-          (λ (k : ℕ). get_or c.args.bytes.now k 0 ≡ get_or c.mark_of-mark.result k 0)
-          here c.if-bytes-i.false)
-          (λ less. c.loop-i.invariant.1 j less)
-          (eq-or-lt_of_le upto),
-    )
+loop-i-preserved c = (
+  omega arith,
+  λ j h.
+      let upto : j ≤ c.loop-i.i = omega arith in
+      ⊎_elim
+      (λ here.
+      subst⁻¹
+      (λ (k : ℕ). get_or c.args.bytes.now k 0 ≡ get_or c.mark_of-mark.result k 0)
+      here c.if-bytes-i.false)
+      (λ less. c.loop-i.invariant.1 j less)
+      (eq-or-lt_of_le upto),
+)
 
 pub returns : goal.returns
 unfolding agree

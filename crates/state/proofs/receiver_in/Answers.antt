@@ -1,5 +1,4 @@
 -- The settings and both slots, each read at its place.
-use borrow.Author.Rules.{rules}
 use mathlib.Core.Path.{◌∙◌}
 use Rattle.protocol.specs.States.{receiver_at}
 use Rattle.state.specs.State.{receiver_in}

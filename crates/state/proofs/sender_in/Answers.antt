@@ -1,5 +1,4 @@
 -- The settings and the slot, each read at its place.
-use borrow.Author.Rules.{rules}
 use mathlib.Core.Path.{ap₂, ◌∙◌}
 use Rattle.protocol.specs.States.{sender_at}
 use Rattle.state.specs.State.{sender_in}

@@ -1,5 +1,4 @@
 -- The array is the slot, byte by byte.
-use borrow.Author.Rules.{rules}
 use mathlib.Core.Path.{refl}
 use Rattle.protocol.specs.Frame.{slot_bytes}
 use Rattle.state.proofs.slot_bytes.Goals as goal

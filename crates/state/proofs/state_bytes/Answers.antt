@@ -1,5 +1,4 @@
 -- The array is the state, byte by byte.
-use borrow.Author.Rules.{rules}
 use mathlib.Core.Path.{refl}
 use Rattle.protocol.specs.Frame.{five, slot_bytes}
 use Rattle.state.specs.State.{state_bytes}

@@ -1,6 +1,4 @@
 -- The length where the settings are accepted, else 0.
-use borrow.Author.Rules.{rules}
-use borrow.Author.Tests.{not-true, not-false}
 use mathlib.Core.Path.{sym, ◌∙◌}
 use Rattle.layout.proofs.lengths.or_zero.Goals as goal
 

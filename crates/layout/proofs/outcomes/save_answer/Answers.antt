@@ -1,5 +1,4 @@
 -- The state is written where the call was taken, and the number is the answer's.
-use borrow.Author.Rules.{rules}
 use mathlib.Core.Path.{ap, ◌∙◌}
 use mathlib.Core.Bool.{Bool}
 use Rattle.state.specs.State.{saved}

@@ -1,6 +1,5 @@
 -- One mark, or else the other.
-use borrow.Author.Rules.{rules}
-use mathlib.Core.Path.{sym, ◌∙◌}
+use mathlib.Core.Path.{sym}
 use Rattle.state.specs.State.{either_mark}
 use Rattle.state.proofs.due.is_either.Goals as goal
 

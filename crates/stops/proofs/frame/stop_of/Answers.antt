@@ -1,5 +1,4 @@
 -- A cause of the header is the first; then come the two bounds of the slot.
-use borrow.Author.Rules.{rules}
 use mathlib.Core.Path.{◌≡◌, sym, ◌∙◌}
 use native.Mathlib.Omega.{arith}
 use Rattle.protocol.specs.declared.Answer.TheVariants.{Accepted}
