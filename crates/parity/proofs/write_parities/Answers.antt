@@ -40,84 +40,107 @@ loop-e-init c =
 
 pub overflow_add-p : goal.overflow_add-p
 overflow_add-p c =
-    let is_position : c.sources-in-loop-e.result + (at-loop.loop.e) ≡ k_of from.args.s + (at-loop.loop.e) = ap (λ (k : ℕ). k + (at-loop.loop.e)) c.sources-in-loop-e.ensures in
-    let below : (at-loop.loop.e) < from.args.s.burst = omega arith in
-    let within : c.sources-in-loop-e.result + (at-loop.loop.e) < n_of from.args.s = let h = shaped (at-loop.before) in omega (arith, is_position, below) in
-    let h = shaped ((at-loop.before)) in omega (arith, within)
+    let shaped : Shape c.args.s = shape c.args.s c.requires.0 in
+    let is_position : c.sources-in-loop-e.result + c.loop-e.e ≡ k_of c.args.s + c.loop-e.e = ap (λ (k : ℕ). k + c.loop-e.e) c.sources-in-loop-e.ensures in
+    let below : c.loop-e.e < c.args.s.burst = omega arith in
+    let within : c.sources-in-loop-e.result + c.loop-e.e < n_of c.args.s = let h = shaped in omega (arith, is_position, below) in
+    let h = shaped in omega (arith, within)
 
 pub gather-requires : goal.gather-requires
 gather-requires c =
-    let is_position : c.sources-in-loop-e.result + (at-loop.loop.e) ≡ k_of from.args.s + (at-loop.loop.e) = ap (λ (k : ℕ). k + (at-loop.loop.e)) c.sources-in-loop-e.ensures in
-    let below : (at-loop.loop.e) < from.args.s.burst = omega arith in
-    let within : c.sources-in-loop-e.result + (at-loop.loop.e) < n_of from.args.s = let h = shaped (at-loop.before) in omega (arith, is_position, below) in
-    let pre = ((start (at-loop.before))).requires in
-    (pre.0, pre.1, omega (arith, is_position), within, ((c)).loop.invariant.3)
+    let is_position : c.sources-in-loop-e.result + c.loop-e.e ≡ k_of c.args.s + c.loop-e.e = ap (λ (k : ℕ). k + c.loop-e.e) c.sources-in-loop-e.ensures in
+    let shaped : Shape c.args.s = shape c.args.s c.requires.0 in
+    let below : c.loop-e.e < c.args.s.burst = omega arith in
+    let within : c.sources-in-loop-e.result + c.loop-e.e < n_of c.args.s = let h = shaped in omega (arith, is_position, below) in
+    (c.requires.0, c.requires.1, omega (arith, is_position), within, c.loop-e.invariant.3)
 
 pub weighted-sum-requires : goal.weighted-sum-requires
 weighted-sum-requires c =
-    let paired : Paired (pairs_of (k_of (from (c)).args.s)) c.gather.new.pairs = let a = (from (c)).args in
-    let at = (at-loop (c)).loop in
-    subst⁻¹ (Paired (pairs_of (k_of a.s))) c.gather.ensures
-    (gathered_paired a.rows.now a.s.lanes (source_of a.s a.due (turn.sources2.result + e (c))) at.pairs
-    (shaped (entered (c))).lanes_few at.inv.3 (pairs_of (k_of a.s))
-    (pairs_of (k_of a.s)) (count_few (entered (c))) at.inv.4) in
-    let counted = entered ((c)) in
-    let h = shaped counted in (
-      omega (arith, within ((c))),
-      omega (arith, is_count counted, count_few counted),
-      subst⁻¹ (λ (m : ℕ). Paired m c.gather.new.pairs) (is_count counted) (paired),
+    let shaped : Shape c.args.s = shape c.args.s c.requires.0 in
+    let is_position : c.sources-in-loop-e.result + c.loop-e.e ≡ k_of c.args.s + c.loop-e.e = ap (λ (k : ℕ). k + c.loop-e.e) c.sources-in-loop-e.ensures in
+    let below : c.loop-e.e < c.args.s.burst = omega arith in
+    let within : c.sources-in-loop-e.result + c.loop-e.e < n_of c.args.s = let h = shaped in omega (arith, is_position, below) in
+    let is_count : (c.sources.result + 1) / 2 ≡ pairs_of (k_of c.args.s) = ap (λ (k : ℕ). (k + 1) / 2) c.sources.ensures in
+    let count_few : pairs_of (k_of c.args.s) ≤ 8 = let h = shaped in omega arith in
+    let paired : Paired (pairs_of (k_of c.args.s)) c.gather.new.pairs = subst⁻¹ (Paired (pairs_of (k_of c.args.s))) c.gather.ensures
+    (gathered_paired c.args.rows.now c.args.s.lanes (source_of c.args.s c.args.due (c.sources-in-loop-e.result + c.loop-e.e)) c.loop-e.pairs
+    (shaped).lanes_few c.loop-e.invariant.3 (pairs_of (k_of c.args.s))
+    (pairs_of (k_of c.args.s)) (count_few) c.loop-e.invariant.4) in
+    let h = shaped in (
+      omega (arith, within),
+      omega (arith, is_count, count_few),
+      subst⁻¹ (λ (m : ℕ). Paired m c.gather.new.pairs) (is_count) (paired),
     )
 
 pub overflow_mul-e : goal.overflow_mul-e
 overflow_mul-e c =
-    let t = turn ((c)) in omega (arith, ends t, few t)
+    let below : c.loop-e.e < c.args.s.burst = omega arith in
+    let ends : c.loop-e.e * c.args.s.lanes + c.args.s.lanes ≤ length c.loop-e.out = omega (arith, c.loop-e.invariant.1, mul-le-mul_right c.args.s.lanes below, suc-mul c.loop-e.e c.args.s.lanes) in
+    let shaped : Shape c.args.s = shape c.args.s c.requires.0 in
+    let few : length c.loop-e.out ≤ 1024 = let h = shaped in
+    let burst : c.args.s.burst ≤ 16 = omega arith in
+    omega (arith, c.loop-e.invariant.1, mul-le-mul burst h.lanes_few) in
+    omega (arith, ends, few)
 
 pub slice_bounds-sum-end : goal.slice_bounds-sum-end
 slice_bounds-sum-end c =
+    let shaped : Shape c.args.s = shape c.args.s c.requires.0 in
     let sums_long : length c.weighted-sum.result ≡ 64 = search rules in
-    let lanes_few : ((from (turn (c))).args.s.lanes) ≤ length c.weighted-sum.result = let h = shaped (entered (turn (c))) in omega (arith, sums_long) in
+    let lanes_few : c.args.s.lanes ≤ length c.weighted-sum.result = let h = shaped in omega (arith, sums_long) in
     lanes_few
 
 pub slice_bounds-write_at-end : goal.slice_bounds-write_at-end
 slice_bounds-write_at-end c =
+    let shaped : Shape c.args.s = shape c.args.s c.requires.0 in
     let sums_long : length c.weighted-sum.result ≡ 64 = search rules in
-    let lanes_few : ((from (turn (c))).args.s.lanes) ≤ length c.weighted-sum.result = let h = shaped (entered (turn (c))) in omega (arith, sums_long) in
-    let lanes_long : length (take ((from (turn (c))).args.s.lanes) c.weighted-sum.result) ≡ ((from (turn (c))).args.s.lanes) = length-take-le ((from (turn (c))).args.s.lanes) c.weighted-sum.result lanes_few in
+    let lanes_few : c.args.s.lanes ≤ length c.weighted-sum.result = let h = shaped in omega (arith, sums_long) in
+    let lanes_long : length (take c.args.s.lanes c.weighted-sum.result) ≡ c.args.s.lanes = length-take-le c.args.s.lanes c.weighted-sum.result lanes_few in
     sym (lanes_long)
 
 pub write_at-requires : goal.write_at-requires
 write_at-requires c =
+    let shaped : Shape c.args.s = shape c.args.s c.requires.0 in
     let sums_long : length c.weighted-sum.result ≡ 64 = search rules in
-    let lanes_few : ((from (turn (c))).args.s.lanes) ≤ length c.weighted-sum.result = let h = shaped (entered (turn (c))) in omega (arith, sums_long) in
-    let lanes_long : length (take ((from (turn (c))).args.s.lanes) c.weighted-sum.result) ≡ ((from (turn (c))).args.s.lanes) = length-take-le ((from (turn (c))).args.s.lanes) c.weighted-sum.result lanes_few in
-    omega (arith, lanes_long, ends (turn ((c))))
+    let lanes_few : c.args.s.lanes ≤ length c.weighted-sum.result = let h = shaped in omega (arith, sums_long) in
+    let lanes_long : length (take c.args.s.lanes c.weighted-sum.result) ≡ c.args.s.lanes = length-take-le c.args.s.lanes c.weighted-sum.result lanes_few in
+    let below : c.loop-e.e < c.args.s.burst = omega arith in
+    let ends : c.loop-e.e * c.args.s.lanes + c.args.s.lanes ≤ length c.loop-e.out = omega (arith, c.loop-e.invariant.1, mul-le-mul_right c.args.s.lanes below, suc-mul c.loop-e.e c.args.s.lanes) in
+    omega (arith, lanes_long, ends)
 
 pub loop-e-preserved : goal.loop-e-preserved
 loop-e-preserved c =
-    let is_parity : let a = (from (turn (c))).args in
-    take ((from (turn (c))).args.s.lanes) c.weighted-sum.result ≡ parity_of a.s a.rows.now a.due (k_of a.s + e (turn (c))) = let at = turn (c) in
-    let counted = entered at in
-    let a = (from at).args in
-    let p : ℕ = at.sources2.result + e at in
-    let pairs : List (List ℕ) = (at-loop at).loop.pairs in
-    ap (take ((from (turn (c))).args.s.lanes))
+    let below : c.loop-e.e < c.args.s.burst = omega arith in
+    let is_count : (c.sources.result + 1) / 2 ≡ pairs_of (k_of c.args.s) = ap (λ (k : ℕ). (k + 1) / 2) c.sources.ensures in
+    let shaped : Shape c.args.s = shape c.args.s c.requires.0 in
+    let is_position : c.sources-in-loop-e.result + c.loop-e.e ≡ k_of c.args.s + c.loop-e.e = ap (λ (k : ℕ). k + c.loop-e.e) c.sources-in-loop-e.ensures in
+    let within : c.sources-in-loop-e.result + c.loop-e.e < n_of c.args.s = let h = shaped in omega (arith, is_position, below) in
+    let is_parity : take c.args.s.lanes c.weighted-sum.result ≡ parity_of c.args.s c.args.rows.now c.args.due (k_of c.args.s + c.loop-e.e) = let p : ℕ = c.sources-in-loop-e.result + c.loop-e.e in
+    ap (take c.args.s.lanes)
     (c.weighted-sum.ensures
-    ∙ ap₂ (λ (l : List (List ℕ)) (m : ℕ). weighted_of counted.before.before.systematic.result p l m) summed.gather.ensures (is_count counted)
-    ∙ ap (λ (form : List (List ℕ)). weighted_of form p (gathered_of a.rows.now a.s.lanes (source_of a.s a.due p) (pairs_of (k_of a.s)) pairs) (pairs_of (k_of a.s)))
-    counted.before.before.systematic.ensures)
-    ∙ parity_symbols a.s a.rows.now a.due p pairs (shaped counted) (at-loop at).loop.inv.3
-    (λ q. (counted.before.before.before.shared-slice-known.given q).fits) (omega (arith, is_position at)) (within at)
-    (is_true _ (from at).pre.0)
-    ∙ ap (parity_of a.s a.rows.now a.due) (is_position at) in
-    let t = turn ((c)) in
-    let a = (from t).args in (
-      omega (arith, below t),
-      c.write_at.auto.0 ∙ (at-loop t).loop.inv.1,
+    ∙ ap₂ (λ (l : List (List ℕ)) (m : ℕ). weighted_of c.systematic-form.result p l m) c.gather.ensures (is_count)
+    ∙ ap (λ (form : List (List ℕ)). weighted_of form p (gathered_of c.args.rows.now c.args.s.lanes (source_of c.args.s c.args.due p) (pairs_of (k_of c.args.s)) c.loop-e.pairs) (pairs_of (k_of c.args.s)))
+    c.systematic-form.ensures)
+    ∙ parity_symbols c.args.s c.args.rows.now c.args.due p c.loop-e.pairs (shaped) c.loop-e.invariant.3
+    (λ q. (c.shared_slice_known-1.given q).fits) (omega (arith, is_position)) (within)
+    (is_true _ c.requires.0)
+    ∙ ap (parity_of c.args.s c.args.rows.now c.args.due) (is_position) in
+    let count_few : pairs_of (k_of c.args.s) ≤ 8 = let h = shaped in omega arith in
+    let wide : Wide c.gather.new.pairs = subst⁻¹ Wide c.gather.ensures
+    (gathered_wide c.args.rows.now c.args.s.lanes (source_of c.args.s c.args.due (c.sources-in-loop-e.result + c.loop-e.e)) c.loop-e.pairs
+    (shaped).lanes_few c.loop-e.invariant.3 (pairs_of (k_of c.args.s))
+    (count_few)) in
+    let paired : Paired (pairs_of (k_of c.args.s)) c.gather.new.pairs = subst⁻¹ (Paired (pairs_of (k_of c.args.s))) c.gather.ensures
+    (gathered_paired c.args.rows.now c.args.s.lanes (source_of c.args.s c.args.due (c.sources-in-loop-e.result + c.loop-e.e)) c.loop-e.pairs
+    (shaped).lanes_few c.loop-e.invariant.3 (pairs_of (k_of c.args.s))
+    (pairs_of (k_of c.args.s)) (count_few) c.loop-e.invariant.4) in
+    (
+      omega (arith, below),
+      c.write_at.auto.0 ∙ c.loop-e.invariant.1,
       c.write_at.ensures
-          ∙ parities_more a.s a.rows.now a.due (e t) a.out.now (at-loop t).loop.out (take (((from (turn (c))).args.s.lanes)) c.weighted-sum.result)
-          (at-loop t).loop.inv.2 (is_parity),
-      wide ((c)),
-      paired ((c)),
+          ∙ parities_more c.args.s c.args.rows.now c.args.due (c.loop-e.e) c.args.out.now c.loop-e.out (take (c.args.s.lanes) c.weighted-sum.result)
+          c.loop-e.invariant.2 (is_parity),
+      wide,
+      paired,
     )
 
 pub shape_of-out : goal.shape_of-out

@@ -46,18 +46,15 @@ source-second-requires c =
 
 pub pair_up-requires : goal.pair_up-requires
 pair_up-requires c =
-    let within : (x : Source) (r : ℕ) → x ≡ source_of start.args.s start.args.roles.now start.args.places.now r
-    → x.start + start.args.s.lanes ≤ length start.args.bytes.now = λ x r is. let a = start.args in
-    subst⁻¹ (λ (x : Source). x.start + a.s.lanes ≤ length a.bytes.now) is
-    (source_held a.s a.places.now (role_of a.s a.roles.now r) a.bytes.now at-loop.loop.inv.0 start.pre.0) in
-    let wide : Wide at-loop.loop.pairs = let a = start.args in
-    let h = at-loop.loop.inv.0 in
-    subst⁻¹ Wide at-loop.loop.inv.2
-    (gathered_wide a.bytes.now a.s.lanes (source_of a.s a.roles.now a.places.now) a.pairs.now h.lanes_few
-    start.pre.2 at-loop.loop.j (omega arith)) in
-    let h = ((c)).loop.invariant.0 in (
+    let within : (x : Source) (r : ℕ) → x ≡ source_of c.args.s c.args.roles.now c.args.places.now r
+    → x.start + c.args.s.lanes ≤ length c.args.bytes.now = λ x r is. subst⁻¹ (λ (x : Source). x.start + c.args.s.lanes ≤ length c.args.bytes.now) is
+    (source_held c.args.s c.args.places.now (role_of c.args.s c.args.roles.now r) c.args.bytes.now c.loop-j.invariant.0 c.requires.0) in
+    let wide : Wide c.loop-j.pairs = subst⁻¹ Wide c.loop-j.invariant.2
+    (gathered_wide c.args.bytes.now c.args.s.lanes (source_of c.args.s c.args.roles.now c.args.places.now) c.args.pairs.now c.loop-j.invariant.0.lanes_few
+    c.requires.2 c.loop-j.j (omega arith)) in
+    (
       omega arith,
-      h.lanes_few,
+      c.loop-j.invariant.0.lanes_few,
       within c.source-first.result _ c.source-first.ensures,
       within c.source-second.result _ c.source-second.ensures,
       wide,
@@ -65,17 +62,16 @@ pair_up-requires c =
 
 pub overflow_add-j-in-loop-j : goal.overflow_add-j-in-loop-j
 overflow_add-j-in-loop-j c =
-    let h = ((c)).loop.inv.0 in omega arith
+    omega arith
 
 pub loop-j-preserved : goal.loop-j-preserved
 loop-j-preserved c =
-    let a = ((at-loop.before.before.before.before)).args in
-    let loop = ((c)).loop in (
-      loop.inv.0,
+    (
+      c.loop-j.invariant.0,
       omega arith,
       c.pair_up.ensures
-          ∙ gathered_more a.bytes.now a.s.lanes (source_of a.s a.roles.now a.places.now) a.pairs.now loop.j loop.pairs
-          c.source-first.result c.source-second.result loop.inv.2 c.source-first.ensures c.source-second.ensures,
+          ∙ gathered_more c.args.bytes.now c.args.s.lanes (source_of c.args.s c.args.roles.now c.args.places.now) c.args.pairs.now c.loop-j.j c.loop-j.pairs
+          c.source-first.result c.source-second.result c.loop-j.invariant.2 c.source-first.ensures c.source-second.ensures,
     )
 
 pub returns : goal.returns

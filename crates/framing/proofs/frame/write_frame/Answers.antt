@@ -31,28 +31,34 @@ write_at-requires-2 c =
     omega (arith, c.write_at.auto.0, lengths)
 
 pub slice_bounds-write_parities-count : goal.slice_bounds-write_parities-count
+unfolding body_len frame_len message_len
 slice_bounds-write_parities-count c =
-    let room : length (second.write-at2.last.0) ≡ (14 + length from.args.message.now) + from.args.s.burst * from.args.s.lanes = omega (arith, second.write-at2.kept.0, first.write-at.kept.0, lengths (begun (headed (second.before.before.before.before)))) in
+    let lengths : (length c.args.message.now ≡ k_of c.args.s * c.args.s.lanes) × (length c.args.frame.now ≡ 14 + (k_of c.args.s * c.args.s.lanes + c.args.s.burst * c.args.s.lanes)) = let h : Shape c.args.s = shape c.args.s c.requires.0 in
+    (c.requires.2, c.requires.3 ∙ ap (λ (n : ℕ). 14 + n * c.args.s.lanes) h.symbols ∙ ap (λ (m : ℕ). 14 + m) (add-mul (k_of c.args.s) c.args.s.burst c.args.s.lanes)) in
+    let room : length c.write_at-2.new.out ≡ (14 + length c.args.message.now) + c.args.s.burst * c.args.s.lanes = omega (arith, c.write_at-2.kept.0, c.write_at.kept.0, lengths) in
     omega (arith, room)
 
 pub slice_bounds-write_parities-start : goal.slice_bounds-write_parities-start
+unfolding body_len frame_len message_len
 slice_bounds-write_parities-start c =
-    let room : length (second.write-at2.last.0) ≡ (14 + length from.args.message.now) + from.args.s.burst * from.args.s.lanes = omega (arith, second.write-at2.kept.0, first.write-at.kept.0, lengths (begun (headed (second.before.before.before.before)))) in
+    let lengths : (length c.args.message.now ≡ k_of c.args.s * c.args.s.lanes) × (length c.args.frame.now ≡ 14 + (k_of c.args.s * c.args.s.lanes + c.args.s.burst * c.args.s.lanes)) = let h : Shape c.args.s = shape c.args.s c.requires.0 in
+    (c.requires.2, c.requires.3 ∙ ap (λ (n : ℕ). 14 + n * c.args.s.lanes) h.symbols ∙ ap (λ (m : ℕ). 14 + m) (add-mul (k_of c.args.s) c.args.s.burst c.args.s.lanes)) in
+    let room : length c.write_at-2.new.out ≡ (14 + length c.args.message.now) + c.args.s.burst * c.args.s.lanes = omega (arith, c.write_at-2.kept.0, c.write_at.kept.0, lengths) in
     omega (arith, room)
 
 pub write_parities-requires : goal.write_parities-requires
+unfolding body_len frame_len message_len
 write_parities-requires c =
-    let room : length (second.write-at2.last.0) ≡ (14 + length from.args.message.now) + from.args.s.burst * from.args.s.lanes = omega (arith, second.write-at2.kept.0, first.write-at.kept.0, lengths (begun (headed (second.before.before.before.before)))) in
-    let pre = ((begun (headed (second.before.before.before.before)))).requires in
-    (pre.0, pre.1, mid_len ((14 + length from.args.message.now)) (length ((second.write-at2.last.0))) ((second.write-at2.last.0)) (le_refl (length ((second.write-at2.last.0)))) ∙ omega (arith, room))
+    let lengths : (length c.args.message.now ≡ k_of c.args.s * c.args.s.lanes) × (length c.args.frame.now ≡ 14 + (k_of c.args.s * c.args.s.lanes + c.args.s.burst * c.args.s.lanes)) = let h : Shape c.args.s = shape c.args.s c.requires.0 in
+    (c.requires.2, c.requires.3 ∙ ap (λ (n : ℕ). 14 + n * c.args.s.lanes) h.symbols ∙ ap (λ (m : ℕ). 14 + m) (add-mul (k_of c.args.s) c.args.s.burst c.args.s.lanes)) in
+    let room : length c.write_at-2.new.out ≡ (14 + length c.args.message.now) + c.args.s.burst * c.args.s.lanes = omega (arith, c.write_at-2.kept.0, c.write_at.kept.0, lengths) in
+    (c.requires.0, c.requires.1, mid_len ((14 + length c.args.message.now)) (length (c.write_at-2.new.out)) (c.write_at-2.new.out) (le_refl (length (c.write_at-2.new.out))) ∙ omega (arith, room))
 
 pub returns : goal.returns
 unfolding frame_of
 returns c =
-    let made = headed ((second.before.before.before.before)) in
-    let a = ((begun (headed (second.before.before.before.before)))).args in
-    let message : List ℕ = a.message.now in
-    three_written a.frame.now made.header-bytes.result message ((second.before.before.before.before)).write-at.new.0 ((second.write-at2.last.0)) c.write_parities.new.out
-    (fourteen made) ((second.before.before.before.before)).write-at.ensures ((c)).write-at2.ensures
-    ∙ ap₂ (λ (head rest : List ℕ). head ++ (message ++ rest)) made.header-bytes.ensures c.write_parities.ensures
-    ∙ ap (λ (body : List ℕ). header a.version a.s a.due ++ body) (body_split a.s a.rows.now message a.due (shape a.s ((begun (headed (second.before.before.before.before)))).requires.0) ((begun (headed (second.before.before.before.before)))).requires.2)
+    let fourteen : length c.header_bytes-head.result ≡ 14 = ap length c.header_bytes-head.ensures ∙ length-header c.args.version c.args.s c.args.due in
+    three_written c.args.frame.now c.header_bytes-head.result c.args.message.now c.write_at.new.out (c.write_at-2.new.out) c.write_parities.new.out
+    (fourteen) c.write_at.ensures c.write_at-2.ensures
+    ∙ ap₂ (λ (head rest : List ℕ). head ++ (c.args.message.now ++ rest)) c.header_bytes-head.ensures c.write_parities.ensures
+    ∙ ap (λ (body : List ℕ). header c.args.version c.args.s c.args.due ++ body) (body_split c.args.s c.args.rows.now c.args.message.now c.args.due (shape c.args.s c.requires.0) c.requires.2)

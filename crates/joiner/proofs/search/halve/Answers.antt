@@ -46,7 +46,7 @@ returns-then-here-slot c =
     < frames_in c.args.s c.args.recording.now = omega (arith, c.loop-bottom.invariant.within, middle c.loop-bottom.bottom c.loop-bottom.top c.loop-bottom-test.true) in
     let read : c.slot_of-here.result ≡ slot_of c.args.s c.args.recording.now (c.loop-bottom.bottom + (c.loop-bottom.top - c.loop-bottom.bottom) / 2) = c.slot_of-here.ensures ∙ ap slot_in c.frame_of.ensures.bytes in
     let found = below_at c.args.s c.args.recording.now c.requires.0 _ (inside) in
-    sym (rw (sym (read) ∙ c.if-here-slot.true) c found)
+    sym (rw (sym (read) ∙ c.if-here-slot.true) at found)
 
 pub overflow_add-bottom : goal.overflow_add-bottom
 overflow_add-bottom c =

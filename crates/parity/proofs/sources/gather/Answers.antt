@@ -53,99 +53,109 @@ overflow_mul-j c =
 
 pub next_row-next-requires : goal.next_row-next-requires
 next_row-next-requires c =
-    let row_within : at-loop.loop.row < n_of (start (at-loop.before)).args.s - 1 = let a = (start (at-loop.before)).args in
-    omega (arith, at-loop.loop.inv.1, row_below a.s a.due a.p (at-loop.loop.j * 2) (some_rows (at-loop.before)).0) in
-    omega (arith, row_within, ((at-loop.before)).symbols.ensures)
+    let shaped : Shape c.args.s = shape c.args.s c.requires.0 in
+    let some_rows : (0 < n_of c.args.s - 1) × (c.args.p ≤ n_of c.args.s - 1) = let h = shaped in (omega arith, omega (arith, c.requires.3)) in
+    let row_within : c.loop-j.row < n_of c.args.s - 1 = omega (arith, c.loop-j.invariant.1, row_below c.args.s c.args.due c.args.p (c.loop-j.j * 2) (some_rows).0) in
+    omega (arith, row_within, c.symbols-ring.ensures)
 
 pub overflow_mul-j-in-loop-j : goal.overflow_mul-j-in-loop-j
 overflow_mul-j-in-loop-j c =
-    omega (arith, few (at-loop ((c))))
+    let shaped : Shape c.args.s = shape c.args.s c.requires.0 in
+    let few : c.loop-j.j ≤ 8 = let h = shaped in omega (arith, c.loop-j.invariant.0) in
+    omega (arith, few)
 
 pub source-first-requires : goal.source-first-requires
 source-first-requires c =
-    ((start (entered ((c)))).pre.0, row_within ((c)))
+    let shaped : Shape c.args.s = shape c.args.s c.requires.0 in
+    let some_rows : (0 < n_of c.args.s - 1) × (c.args.p ≤ n_of c.args.s - 1) = let h = shaped in (omega arith, omega (arith, c.requires.3)) in
+    let row_within : c.loop-j.row < n_of c.args.s - 1 = omega (arith, c.loop-j.invariant.1, row_below c.args.s c.args.due c.args.p (c.loop-j.j * 2) (some_rows).0) in
+    (c.requires.0, row_within)
 
 pub overflow_mul-j-in-loop-j-2 : goal.overflow_mul-j-in-loop-j-2
 overflow_mul-j-in-loop-j-2 c =
-    omega (arith, few (at-loop ((c))))
+    let shaped : Shape c.args.s = shape c.args.s c.requires.0 in
+    let few : c.loop-j.j ≤ 8 = let h = shaped in omega (arith, c.loop-j.invariant.0) in
+    omega (arith, few)
 
 pub overflow_add-j : goal.overflow_add-j
 overflow_add-j c =
-    omega (arith, few (at-loop ((c))))
+    let shaped : Shape c.args.s = shape c.args.s c.requires.0 in
+    let few : c.loop-j.j ≤ 8 = let h = shaped in omega (arith, c.loop-j.invariant.0) in
+    omega (arith, few)
 
 pub source-second-requires : goal.source-second-requires
 source-second-requires c =
-    let is_next : let a = (start (entered (c))).args in
-    c.next_row-next.result ≡ row_of a.s a.due a.p ((at-loop (c)).loop.j * 2 + 1) = let a = (start (entered (c))).args in
-    let at = (at-loop (c)).loop in
-    c.next_row-next.ensures
-    ∙ ap (λ (n : ℕ). (at.row + 1) % (n - 1)) (entered (c)).symbols.ensures
-    ∙ row_next a.s a.due a.p (at.j * 2) at.row at.inv.1 in
-    let next_within : c.next_row-next.result < n_of (start (entered (c))).args.s - 1 = let a = (start (entered (c))).args in
-    omega (arith, is_next, row_below a.s a.due a.p ((at-loop (c)).loop.j * 2 + 1) (some_rows (entered (c))).0) in
-    ((start (entered ((c)))).pre.0, next_within)
+    let is_next : c.next_row-next.result ≡ row_of c.args.s c.args.due c.args.p (c.loop-j.j * 2 + 1) = c.next_row-next.ensures
+    ∙ ap (λ (n : ℕ). (c.loop-j.row + 1) % (n - 1)) c.symbols-ring.ensures
+    ∙ row_next c.args.s c.args.due c.args.p (c.loop-j.j * 2) c.loop-j.row c.loop-j.invariant.1 in
+    let shaped : Shape c.args.s = shape c.args.s c.requires.0 in
+    let some_rows : (0 < n_of c.args.s - 1) × (c.args.p ≤ n_of c.args.s - 1) = let h = shaped in (omega arith, omega (arith, c.requires.3)) in
+    let next_within : c.next_row-next.result < n_of c.args.s - 1 = omega (arith, is_next, row_below c.args.s c.args.due c.args.p (c.loop-j.j * 2 + 1) (some_rows).0) in
+    (c.requires.0, next_within)
 
 pub pair_up-requires : goal.pair_up-requires
 pair_up-requires c =
-    let is_next : let a = (start (entered (c))).args in
-    c.next_row-next.result ≡ row_of a.s a.due a.p ((at-loop (c)).loop.j * 2 + 1) = let a = (start (entered (c))).args in
-    let at = (at-loop (c)).loop in
-    c.next_row-next.ensures
-    ∙ ap (λ (n : ℕ). (at.row + 1) % (n - 1)) (entered (c)).symbols.ensures
-    ∙ row_next a.s a.due a.p (at.j * 2) at.row at.inv.1 in
-    let next_within : c.next_row-next.result < n_of (start (entered (c))).args.s - 1 = let a = (start (entered (c))).args in
-    omega (arith, is_next, row_below a.s a.due a.p ((at-loop (c)).loop.j * 2 + 1) (some_rows (entered (c))).0) in
-    let at = (c) in
-    let h = shaped (entered at) in (
-      omega (arith, (source at).1),
+    let shaped : Shape c.args.s = shape c.args.s c.requires.0 in
+    let source : (c.loop-j.j * 2 < k_of c.args.s) × (c.loop-j.j + 1 ≤ pairs_of (k_of c.args.s)) = (omega (arith, c.sources.ensures), omega (arith, c.sources.ensures)) in
+    let held : (x : Source) (row i : ℕ) → row < n_of c.args.s - 1 → x ≡ source_in c.args.s row i
+    → x.start + c.args.s.lanes ≤ length c.args.rows.now = λ x row i below is. subst⁻¹ (λ (x : Source). x.start + c.args.s.lanes ≤ length c.args.rows.now) is
+    (omega (arith, source_held c.args.s row i (shaped) below, c.requires.1)) in
+    let some_rows : (0 < n_of c.args.s - 1) × (c.args.p ≤ n_of c.args.s - 1) = let h = shaped in (omega arith, omega (arith, c.requires.3)) in
+    let row_within : c.loop-j.row < n_of c.args.s - 1 = omega (arith, c.loop-j.invariant.1, row_below c.args.s c.args.due c.args.p (c.loop-j.j * 2) (some_rows).0) in
+    let is_next : c.next_row-next.result ≡ row_of c.args.s c.args.due c.args.p (c.loop-j.j * 2 + 1) = c.next_row-next.ensures
+    ∙ ap (λ (n : ℕ). (c.loop-j.row + 1) % (n - 1)) c.symbols-ring.ensures
+    ∙ row_next c.args.s c.args.due c.args.p (c.loop-j.j * 2) c.loop-j.row c.loop-j.invariant.1 in
+    let next_within : c.next_row-next.result < n_of c.args.s - 1 = omega (arith, is_next, row_below c.args.s c.args.due c.args.p (c.loop-j.j * 2 + 1) (some_rows).0) in
+    let few : c.loop-j.j ≤ 8 = let h = shaped in omega (arith, c.loop-j.invariant.0) in
+    let wide : Wide c.loop-j.pairs = subst⁻¹ Wide c.loop-j.invariant.2
+    (gathered_wide c.args.rows.now c.args.s.lanes (source_of c.args.s c.args.due c.args.p) c.args.pairs.now (shaped).lanes_few c.requires.4
+    c.loop-j.j (few)) in
+    let h = shaped in (
+      omega (arith, (source).1),
       h.lanes_few,
-      held at c.source-first.result _ _ (row_within at) c.source-first.ensures,
-      held at c.source-second.result _ _ (next_within) c.source-second.ensures,
-      wide at,
+      held c.source-first.result _ _ (row_within) c.source-first.ensures,
+      held c.source-second.result _ _ (next_within) c.source-second.ensures,
+      wide,
     )
 
 pub next_row-row-requires : goal.next_row-row-requires
 next_row-row-requires c =
-    let is_next : let a = (start (entered (c))).args in
-    c.next_row-next.result ≡ row_of a.s a.due a.p ((at-loop (c)).loop.j * 2 + 1) = let a = (start (entered (c))).args in
-    let at = (at-loop (c)).loop in
-    c.next_row-next.ensures
-    ∙ ap (λ (n : ℕ). (at.row + 1) % (n - 1)) (entered (c)).symbols.ensures
-    ∙ row_next a.s a.due a.p (at.j * 2) at.row at.inv.1 in
-    let next_within : c.next_row-next.result < n_of (start (entered (c))).args.s - 1 = let a = (start (entered (c))).args in
-    omega (arith, is_next, row_below a.s a.due a.p ((at-loop (c)).loop.j * 2 + 1) (some_rows (entered (c))).0) in
-    omega (arith, next_within, (entered ((c))).symbols.ensures)
+    let is_next : c.next_row-next.result ≡ row_of c.args.s c.args.due c.args.p (c.loop-j.j * 2 + 1) = c.next_row-next.ensures
+    ∙ ap (λ (n : ℕ). (c.loop-j.row + 1) % (n - 1)) c.symbols-ring.ensures
+    ∙ row_next c.args.s c.args.due c.args.p (c.loop-j.j * 2) c.loop-j.row c.loop-j.invariant.1 in
+    let shaped : Shape c.args.s = shape c.args.s c.requires.0 in
+    let some_rows : (0 < n_of c.args.s - 1) × (c.args.p ≤ n_of c.args.s - 1) = let h = shaped in (omega arith, omega (arith, c.requires.3)) in
+    let next_within : c.next_row-next.result < n_of c.args.s - 1 = omega (arith, is_next, row_below c.args.s c.args.due c.args.p (c.loop-j.j * 2 + 1) (some_rows).0) in
+    omega (arith, next_within, c.symbols-ring.ensures)
 
 pub overflow_add-j-in-loop-j : goal.overflow_add-j-in-loop-j
 overflow_add-j-in-loop-j c =
-    omega (arith, few (at-loop ((c))))
+    let shaped : Shape c.args.s = shape c.args.s c.requires.0 in
+    let few : c.loop-j.j ≤ 8 = let h = shaped in omega (arith, c.loop-j.invariant.0) in
+    omega (arith, few)
 
 pub loop-j-smaller : goal.loop-j-smaller
 loop-j-smaller c =
-    omega (arith, source ((c)))
+    let source : (c.loop-j.j * 2 < k_of c.args.s) × (c.loop-j.j + 1 ≤ pairs_of (k_of c.args.s)) = (omega (arith, c.sources.ensures), omega (arith, c.sources.ensures)) in
+    omega (arith, source)
 
 pub loop-j-preserved : goal.loop-j-preserved
 loop-j-preserved c =
-    let is_next : let a = (start (entered (c))).args in
-    c.next_row-next.result ≡ row_of a.s a.due a.p ((at-loop (c)).loop.j * 2 + 1) = let a = (start (entered (c))).args in
-    let at = (at-loop (c)).loop in
-    c.next_row-next.ensures
-    ∙ ap (λ (n : ℕ). (at.row + 1) % (n - 1)) (entered (c)).symbols.ensures
-    ∙ row_next a.s a.due a.p (at.j * 2) at.row at.inv.1 in
-    let from = (c) in
-    let at = (at-loop from).loop in
-    let a = (start (entered from)).args in
-    let turned : at.j * 2 + 1 + 1 ≡ (at.j + 1) * 2 = omega arith in (
-      (source from).1,
+    let source : (c.loop-j.j * 2 < k_of c.args.s) × (c.loop-j.j + 1 ≤ pairs_of (k_of c.args.s)) = (omega (arith, c.sources.ensures), omega (arith, c.sources.ensures)) in
+    let is_next : c.next_row-next.result ≡ row_of c.args.s c.args.due c.args.p (c.loop-j.j * 2 + 1) = c.next_row-next.ensures
+    ∙ ap (λ (n : ℕ). (c.loop-j.row + 1) % (n - 1)) c.symbols-ring.ensures
+    ∙ row_next c.args.s c.args.due c.args.p (c.loop-j.j * 2) c.loop-j.row c.loop-j.invariant.1 in
+    let turned : c.loop-j.j * 2 + 1 + 1 ≡ (c.loop-j.j + 1) * 2 = omega arith in (
+      (source).1,
       c.next_row-row.ensures
-          ∙ ap (λ (n : ℕ). (c.next_row-next.result + 1) % (n - 1)) (entered from).symbols.ensures
-          ∙ row_next a.s a.due a.p (at.j * 2 + 1) c.next_row-next.result (is_next)
-          ∙ ap (row_of a.s a.due a.p) turned,
+          ∙ ap (λ (n : ℕ). (c.next_row-next.result + 1) % (n - 1)) c.symbols-ring.ensures
+          ∙ row_next c.args.s c.args.due c.args.p (c.loop-j.j * 2 + 1) c.next_row-next.result (is_next)
+          ∙ ap (row_of c.args.s c.args.due c.args.p) turned,
       c.pair_up.ensures
-          ∙ gathered_more a.rows.now a.s.lanes (source_of a.s a.due a.p) a.pairs.now at.j at.pairs c.source-first.result
-          c.source-second.result at.inv.2
-          (c.source-first.ensures ∙ ap (λ (row : ℕ). source_in a.s row (at.j * 2)) at.inv.1)
-          (c.source-second.ensures ∙ ap (λ (row : ℕ). source_in a.s row (at.j * 2 + 1)) (is_next)),
+          ∙ gathered_more c.args.rows.now c.args.s.lanes (source_of c.args.s c.args.due c.args.p) c.args.pairs.now c.loop-j.j c.loop-j.pairs c.source-first.result
+          c.source-second.result c.loop-j.invariant.2
+          (c.source-first.ensures ∙ ap (λ (row : ℕ). source_in c.args.s row (c.loop-j.j * 2)) c.loop-j.invariant.1)
+          (c.source-second.ensures ∙ ap (λ (row : ℕ). source_in c.args.s row (c.loop-j.j * 2 + 1)) (is_next)),
     )
 
 pub returns : goal.returns
