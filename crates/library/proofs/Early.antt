@@ -28,6 +28,7 @@ use Rattle.library.proofs.Demand.{passed, sent_bytes_lem, faithful, holds}
 -- of two that come one after the other in one list, the partners do in the other
 partners_later : {A B : Type 0} {R : A → B → Type 0} {b b' : B} {xs : List A} {ys : List B} → Forall₂ R xs ys → Later b b' ys
     → (a : A) × (a' : A) × Later a a' xs × R a b × R a' b'
+partners_later {A = A} {B = B} {R = R} {b = b} Forall₂.nil later = elim later [ ]
 partners_later (Forall₂.cons {a = a} r rest) (after listed) =
     let (a', listed', r') = partner.first rest listed in
     (a, a', after listed', r, r')

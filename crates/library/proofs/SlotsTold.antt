@@ -240,6 +240,7 @@ module _ (state rows frame message : List ℕ) (was : ℕ) (bytes : Bytes frame)
 
   first_other : First OtherSlot (row unlike OtherSlot ∷ []) → T unlike
   first_other (here h w) = h
+  first_other (later _ rest) = elim rest [ ]
 
   differ : state_cause receiver_end state ≡ answer.Accepted → first_of above ≡ answer.Accepted → T unlike → Differ
   unfolding receiver_in frame_len frame_slot_bytes slot_read_cause
