@@ -14,6 +14,7 @@ use Rattle.elimination.specs.Elimination.{known_in}
 use Rattle.elimination.proofs.Terms.{known_on, known_off}
 use Rattle.clashes.specs.Clashes.{ParityOnly, sum_clash, sums_clash}
 use Rattle.clashes.proofs.clashing.Goals as goal
+use Rattle.clashes.proofs.clashing.Goals.{then-flags-q-eq1+else-clashing_at, else-flags-q-eq1}
 
 pub loop-q-init : goal.loop-q-init
 unfolding ParityOnly
@@ -47,8 +48,12 @@ loop-q-preserved c =
     let clash : ℕ → Bool = sum_clash c.args.s c.args.rows.now c.args.pairs.now c.args.places.now c.args.bytes.now in (
       c.loop-q.invariant.0,
       below_more (λ p. T (known p && clash p) → ⊥) c.loop-q.q c.loop-q.invariant.1
-          (⊎_elim (λ way t. subst T (sym way.1.ensures ∙ way.2.left) (and_right (known c.loop-q.q) (clash c.loop-q.q) t))
-          (λ way t. subst T (known_off c.args.s c.args.flags.now c.loop-q.q (λ on. omega arith)) (and_left (known c.loop-q.q) (clash c.loop-q.q) t)) c.if-flags-q-eq1.branch),
+          (elim c.if-flags-q-eq1.branch [
+            | then-flags-q-eq1+else-clashing_at w ↦ λ t.
+                subst T (sym w.clashing_at.ensures ∙ w.if-clashing_at.false) (and_right (known c.loop-q.q) (clash c.loop-q.q) t)
+            | else-flags-q-eq1 w ↦ λ t.
+                subst T (known_off c.args.s c.args.flags.now c.loop-q.q (λ on. omega arith)) (and_left (known c.loop-q.q) (clash c.loop-q.q) t)
+          ]),
     )
 
 pub returns : goal.returns

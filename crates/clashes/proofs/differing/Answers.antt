@@ -13,6 +13,7 @@ use Rattle.elimination.proofs.PivotSearch.{is_free, is_pivot}
 use Rattle.elimination.proofs.Pivots.{test_differs}
 use Rattle.elimination.proofs.Terms.{both, free_differs, test_passes, test_off}
 use Rattle.clashes.proofs.differing.Goals as goal
+use Rattle.clashes.proofs.differing.Goals.{then-roles-r-eq16+else-rows-r-ne0, else-roles-r-eq16}
 
 pub loop-r-init : goal.loop-r-init
 loop-r-init c =
@@ -35,8 +36,10 @@ loop-r-preserved c =
     let e = cell x.rows c.loop-r.r c.args.i in (
       omega arith,
       below_more (λ q. T (free_differs x c.args.i q) → ⊥) c.loop-r.r c.loop-r.invariant.1
-          (⊎_elim (λ way t. test_differs f e 0 t (omega arith))
-          (λ way t. test_off f e 0 (is_pivot x c.args.i c.loop-r.r (omega arith) (λ same. omega arith)) t) c.if-roles-r-eq16.branch),
+          (elim c.if-roles-r-eq16.branch [
+            | then-roles-r-eq16+else-rows-r-ne0 w ↦ λ t. test_differs f e 0 t (omega arith)
+            | else-roles-r-eq16 w ↦ λ t. test_off f e 0 (is_pivot x c.args.i c.loop-r.r (omega arith) (λ same. omega arith)) t
+          ]),
     )
 
 pub returns : goal.returns
