@@ -1,164 +1,135 @@
 -- The loop puts two source symbols of every lane into their pair a turn; row is the one that holds source symbol 2j.
-use borrow.Author.Rules.{rules}
-use mathlib.Core.Path.{◌≡◌, refl, sym, ap, subst⁻¹, ◌∙◌}
+use mathlib.Core.Path.{◌≡◌, refl, ap, subst⁻¹, ◌∙◌}
+use mathlib.Core.List.{List}
 use native.Mathlib.Omega.{arith}
 use Prim.Native.Nat.{ℕ, ◌+◌, ◌-◌, ◌*◌, ◌%◌, ◌≤◌, ◌<◌}
 use lib.ListN.{length}
 use Rattle.gathering.specs.Pairs.{pairs_of, Wide, gathered_of}
 use Rattle.gathering.specs.declared.Source.{Source}
 use Rattle.gathering.proofs.Gathered.{gathered_more, gathered_wide}
+use Rattle.code.specs.declared.settings.Settings.{Settings}
 use Rattle.code.specs.Settings.{k_of, n_of}
 use Rattle.code.proofs.Shape.{Shape, shape}
+use Rattle.protocol.specs.Lengths.{sender_len}
 use Rattle.parity.specs.Sources.{source_in, row_of, source_of}
 use Rattle.parity.proofs.Places.{row_first, row_next, row_below}
 use Rattle.parity.proofs.Gathered.{source_held}
 use Rattle.parity.proofs.sources.gather.Goals as goal
 
+module _ (s : Settings) (h : Shape s) (t p : ℕ) where
+  -- the row of a source symbol is one of the ring
+  in_ring : (row i : ℕ) → row ≡ row_of s t p i → row < n_of s - 1
+  in_ring row i is = let some : 0 < n_of s - 1 = omega arith in omega (arith, row_below s t p i some)
+
+  -- and the row after it is of the next one
+  row_after : (ring row i next : ℕ) → ring ≡ n_of s - 1 → row ≡ row_of s t p i → next ≡ (row + 1) % ring → next ≡ row_of s t p (i + 1)
+  row_after ring row i next is-ring is is-next = is-next ∙ ap (λ (n : ℕ). (row + 1) % n) is-ring ∙ row_next s t p i row is
+
+  -- a source symbol of a row of the ring lies within the rows
+  held : (rows : List ℕ) (x : Source) (row i : ℕ) → length rows ≡ sender_len s → row < n_of s - 1 → x ≡ source_in s row i
+      → x.start + s.lanes ≤ length rows
+  held rows x row i full below is =
+      subst⁻¹ (λ (x : Source). x.start + s.lanes ≤ length rows) is (omega (arith, source_held s row i h below, full))
+
 pub overflow_sub-ring : goal.overflow_sub-ring
-overflow_sub-ring c =
-    let shaped : Shape c.args.s = shape c.args.s c.requires.0 in
-    let h = shaped in omega (arith, c.symbols-ring.ensures)
+overflow_sub-ring c = let h = shape c.args.s c.requires.0 in omega arith
 
 pub overflow_add-row : goal.overflow_add-row
-overflow_add-row c =
-    let shaped : Shape c.args.s = shape c.args.s c.requires.0 in
-    let h = shaped in omega (arith, c.symbols-ring.ensures)
+overflow_add-row c = let h = shape c.args.s c.requires.0 in omega arith
 
 pub overflow_sub-row : goal.overflow_sub-row
-overflow_sub-row c =
-    let shaped : Shape c.args.s = shape c.args.s c.requires.0 in
-    let some_rows : (0 < n_of c.args.s - 1) × (c.args.p ≤ n_of c.args.s - 1) = let h = shaped in (omega arith, omega (arith, c.requires.3)) in
-    omega (arith, c.symbols-ring.ensures, some_rows)
+overflow_sub-row c = let h = shape c.args.s c.requires.0 in omega arith
 
 pub nonzero_rem-row : goal.nonzero_rem-row
-nonzero_rem-row c =
-    let shaped : Shape c.args.s = shape c.args.s c.requires.0 in
-    let some_rows : (0 < n_of c.args.s - 1) × (c.args.p ≤ n_of c.args.s - 1) = let h = shaped in (omega arith, omega (arith, c.requires.3)) in
-    omega (arith, c.symbols-ring.ensures, some_rows)
+nonzero_rem-row c = let h = shape c.args.s c.requires.0 in omega arith
 
 pub loop-j-init : goal.loop-j-init
 unfolding gathered_of
-loop-j-init c =
-    (
-      omega arith,
-      ap (λ (n : ℕ). (c.args.due + (n - 1) - c.args.p) % (n - 1)) c.symbols-ring.ensures ∙ row_first c.args.s c.args.due c.args.p,
-      refl,
-    )
+loop-j-init c = (
+  omega arith,
+  ap (λ (n : ℕ). (c.args.due + (n - 1) - c.args.p) % (n - 1)) c.symbols-ring.ensures ∙ row_first c.args.s c.args.due c.args.p,
+  refl,
+)
 
 pub overflow_mul-j : goal.overflow_mul-j
-overflow_mul-j c =
-    let shaped : Shape c.args.s = shape c.args.s c.requires.0 in
-    let few : c.loop-j.j ≤ 8 = let h = shaped in omega (arith, c.loop-j.invariant.0) in
-    omega (arith, few)
+overflow_mul-j c = let h = shape c.args.s c.requires.0 in omega (arith, c.loop-j.invariant.0)
 
 pub next_row-next-requires : goal.next_row-next-requires
 next_row-next-requires c =
-    let shaped : Shape c.args.s = shape c.args.s c.requires.0 in
-    let some_rows : (0 < n_of c.args.s - 1) × (c.args.p ≤ n_of c.args.s - 1) = let h = shaped in (omega arith, omega (arith, c.requires.3)) in
-    let row_within : c.loop-j.row < n_of c.args.s - 1 = omega (arith, c.loop-j.invariant.1, row_below c.args.s c.args.due c.args.p (c.loop-j.j * 2) (some_rows).0) in
-    omega (arith, row_within, c.symbols-ring.ensures)
+    let a = c.args in
+    let h = shape a.s c.requires.0 in
+    omega (arith, in_ring a.s h a.due a.p c.loop-j.row (c.loop-j.j * 2) c.loop-j.invariant.1)
 
 pub overflow_mul-j-in-loop-j : goal.overflow_mul-j-in-loop-j
-overflow_mul-j-in-loop-j c =
-    let shaped : Shape c.args.s = shape c.args.s c.requires.0 in
-    let few : c.loop-j.j ≤ 8 = let h = shaped in omega (arith, c.loop-j.invariant.0) in
-    omega (arith, few)
+overflow_mul-j-in-loop-j c = let h = shape c.args.s c.requires.0 in omega (arith, c.loop-j.invariant.0)
 
 pub source-first-requires : goal.source-first-requires
 source-first-requires c =
-    let shaped : Shape c.args.s = shape c.args.s c.requires.0 in
-    let some_rows : (0 < n_of c.args.s - 1) × (c.args.p ≤ n_of c.args.s - 1) = let h = shaped in (omega arith, omega (arith, c.requires.3)) in
-    let row_within : c.loop-j.row < n_of c.args.s - 1 = omega (arith, c.loop-j.invariant.1, row_below c.args.s c.args.due c.args.p (c.loop-j.j * 2) (some_rows).0) in
-    (c.requires.0, row_within)
+    let a = c.args in
+    let h = shape a.s c.requires.0 in
+    (c.requires.0, in_ring a.s h a.due a.p c.loop-j.row (c.loop-j.j * 2) c.loop-j.invariant.1)
 
 pub overflow_mul-j-in-loop-j-2 : goal.overflow_mul-j-in-loop-j-2
-overflow_mul-j-in-loop-j-2 c =
-    let shaped : Shape c.args.s = shape c.args.s c.requires.0 in
-    let few : c.loop-j.j ≤ 8 = let h = shaped in omega (arith, c.loop-j.invariant.0) in
-    omega (arith, few)
+overflow_mul-j-in-loop-j-2 c = let h = shape c.args.s c.requires.0 in omega (arith, c.loop-j.invariant.0)
 
 pub overflow_add-j : goal.overflow_add-j
-overflow_add-j c =
-    let shaped : Shape c.args.s = shape c.args.s c.requires.0 in
-    let few : c.loop-j.j ≤ 8 = let h = shaped in omega (arith, c.loop-j.invariant.0) in
-    omega (arith, few)
+overflow_add-j c = let h = shape c.args.s c.requires.0 in omega (arith, c.loop-j.invariant.0)
 
 pub source-second-requires : goal.source-second-requires
 source-second-requires c =
-    let is_next : c.next_row-next.result ≡ row_of c.args.s c.args.due c.args.p (c.loop-j.j * 2 + 1) = c.next_row-next.ensures
-    ∙ ap (λ (n : ℕ). (c.loop-j.row + 1) % (n - 1)) c.symbols-ring.ensures
-    ∙ row_next c.args.s c.args.due c.args.p (c.loop-j.j * 2) c.loop-j.row c.loop-j.invariant.1 in
-    let shaped : Shape c.args.s = shape c.args.s c.requires.0 in
-    let some_rows : (0 < n_of c.args.s - 1) × (c.args.p ≤ n_of c.args.s - 1) = let h = shaped in (omega arith, omega (arith, c.requires.3)) in
-    let next_within : c.next_row-next.result < n_of c.args.s - 1 = omega (arith, is_next, row_below c.args.s c.args.due c.args.p (c.loop-j.j * 2 + 1) (some_rows).0) in
-    (c.requires.0, next_within)
+    let a = c.args in
+    let h = shape a.s c.requires.0 in
+    let next = row_after a.s h a.due a.p (c.symbols-ring.result - 1) c.loop-j.row (c.loop-j.j * 2) _ (omega arith) c.loop-j.invariant.1 c.next_row-next.ensures in
+    (c.requires.0, in_ring a.s h a.due a.p _ (c.loop-j.j * 2 + 1) next)
 
 pub pair_up-requires : goal.pair_up-requires
 pair_up-requires c =
-    let shaped : Shape c.args.s = shape c.args.s c.requires.0 in
-    let source : (c.loop-j.j * 2 < k_of c.args.s) × (c.loop-j.j + 1 ≤ pairs_of (k_of c.args.s)) = (omega (arith, c.sources.ensures), omega (arith, c.sources.ensures)) in
-    let held : (x : Source) (row i : ℕ) → row < n_of c.args.s - 1 → x ≡ source_in c.args.s row i
-    → x.start + c.args.s.lanes ≤ length c.args.rows.now = λ x row i below is. subst⁻¹ (λ (x : Source). x.start + c.args.s.lanes ≤ length c.args.rows.now) is
-    (omega (arith, source_held c.args.s row i (shaped) below, c.requires.1)) in
-    let some_rows : (0 < n_of c.args.s - 1) × (c.args.p ≤ n_of c.args.s - 1) = let h = shaped in (omega arith, omega (arith, c.requires.3)) in
-    let row_within : c.loop-j.row < n_of c.args.s - 1 = omega (arith, c.loop-j.invariant.1, row_below c.args.s c.args.due c.args.p (c.loop-j.j * 2) (some_rows).0) in
-    let is_next : c.next_row-next.result ≡ row_of c.args.s c.args.due c.args.p (c.loop-j.j * 2 + 1) = c.next_row-next.ensures
-    ∙ ap (λ (n : ℕ). (c.loop-j.row + 1) % (n - 1)) c.symbols-ring.ensures
-    ∙ row_next c.args.s c.args.due c.args.p (c.loop-j.j * 2) c.loop-j.row c.loop-j.invariant.1 in
-    let next_within : c.next_row-next.result < n_of c.args.s - 1 = omega (arith, is_next, row_below c.args.s c.args.due c.args.p (c.loop-j.j * 2 + 1) (some_rows).0) in
-    let few : c.loop-j.j ≤ 8 = let h = shaped in omega (arith, c.loop-j.invariant.0) in
-    let wide : Wide c.loop-j.pairs = subst⁻¹ Wide c.loop-j.invariant.2
-    (gathered_wide c.args.rows.now c.args.s.lanes (source_of c.args.s c.args.due c.args.p) c.args.pairs.now (shaped).lanes_few c.requires.4
-    c.loop-j.j (few)) in
-    let h = shaped in (
-      omega (arith, (source).1),
+    let a = c.args in
+    let h = shape a.s c.requires.0 in
+    let next = row_after a.s h a.due a.p (c.symbols-ring.result - 1) c.loop-j.row (c.loop-j.j * 2) _ (omega arith) c.loop-j.invariant.1 c.next_row-next.ensures in
+    let few : c.loop-j.j ≤ 8 = omega (arith, c.loop-j.invariant.0) in (
+      omega arith,
       h.lanes_few,
-      held c.source-first.result _ _ (row_within) c.source-first.ensures,
-      held c.source-second.result _ _ (next_within) c.source-second.ensures,
-      wide,
+      held a.s h a.due a.p a.rows.now _ c.loop-j.row (c.loop-j.j * 2) c.requires.1
+          (in_ring a.s h a.due a.p _ (c.loop-j.j * 2) c.loop-j.invariant.1) c.source-first.ensures,
+      held a.s h a.due a.p a.rows.now _ c.next_row-next.result (c.loop-j.j * 2 + 1) c.requires.1
+          (in_ring a.s h a.due a.p _ (c.loop-j.j * 2 + 1) next) c.source-second.ensures,
+      subst⁻¹ Wide c.loop-j.invariant.2
+          (gathered_wide a.rows.now a.s.lanes (source_of a.s a.due a.p) a.pairs.now h.lanes_few c.requires.4 c.loop-j.j few),
     )
 
 pub next_row-row-requires : goal.next_row-row-requires
 next_row-row-requires c =
-    let is_next : c.next_row-next.result ≡ row_of c.args.s c.args.due c.args.p (c.loop-j.j * 2 + 1) = c.next_row-next.ensures
-    ∙ ap (λ (n : ℕ). (c.loop-j.row + 1) % (n - 1)) c.symbols-ring.ensures
-    ∙ row_next c.args.s c.args.due c.args.p (c.loop-j.j * 2) c.loop-j.row c.loop-j.invariant.1 in
-    let shaped : Shape c.args.s = shape c.args.s c.requires.0 in
-    let some_rows : (0 < n_of c.args.s - 1) × (c.args.p ≤ n_of c.args.s - 1) = let h = shaped in (omega arith, omega (arith, c.requires.3)) in
-    let next_within : c.next_row-next.result < n_of c.args.s - 1 = omega (arith, is_next, row_below c.args.s c.args.due c.args.p (c.loop-j.j * 2 + 1) (some_rows).0) in
-    omega (arith, next_within, c.symbols-ring.ensures)
+    let a = c.args in
+    let h = shape a.s c.requires.0 in
+    let next = row_after a.s h a.due a.p (c.symbols-ring.result - 1) c.loop-j.row (c.loop-j.j * 2) _ (omega arith) c.loop-j.invariant.1 c.next_row-next.ensures in
+    omega (arith, in_ring a.s h a.due a.p _ (c.loop-j.j * 2 + 1) next)
 
 pub overflow_add-j-in-loop-j : goal.overflow_add-j-in-loop-j
-overflow_add-j-in-loop-j c =
-    let shaped : Shape c.args.s = shape c.args.s c.requires.0 in
-    let few : c.loop-j.j ≤ 8 = let h = shaped in omega (arith, c.loop-j.invariant.0) in
-    omega (arith, few)
+overflow_add-j-in-loop-j c = let h = shape c.args.s c.requires.0 in omega (arith, c.loop-j.invariant.0)
 
 pub loop-j-smaller : goal.loop-j-smaller
-loop-j-smaller c =
-    let source : (c.loop-j.j * 2 < k_of c.args.s) × (c.loop-j.j + 1 ≤ pairs_of (k_of c.args.s)) = (omega (arith, c.sources.ensures), omega (arith, c.sources.ensures)) in
-    omega (arith, source)
+loop-j-smaller c = omega (arith, c.sources.ensures)
 
 pub loop-j-preserved : goal.loop-j-preserved
 loop-j-preserved c =
-    let source : (c.loop-j.j * 2 < k_of c.args.s) × (c.loop-j.j + 1 ≤ pairs_of (k_of c.args.s)) = (omega (arith, c.sources.ensures), omega (arith, c.sources.ensures)) in
-    let is_next : c.next_row-next.result ≡ row_of c.args.s c.args.due c.args.p (c.loop-j.j * 2 + 1) = c.next_row-next.ensures
-    ∙ ap (λ (n : ℕ). (c.loop-j.row + 1) % (n - 1)) c.symbols-ring.ensures
-    ∙ row_next c.args.s c.args.due c.args.p (c.loop-j.j * 2) c.loop-j.row c.loop-j.invariant.1 in
-    let turned : c.loop-j.j * 2 + 1 + 1 ≡ (c.loop-j.j + 1) * 2 = omega arith in (
-      (source).1,
-      c.next_row-row.ensures
-          ∙ ap (λ (n : ℕ). (c.next_row-next.result + 1) % (n - 1)) c.symbols-ring.ensures
-          ∙ row_next c.args.s c.args.due c.args.p (c.loop-j.j * 2 + 1) c.next_row-next.result (is_next)
-          ∙ ap (row_of c.args.s c.args.due c.args.p) turned,
+    let a = c.args in
+    let h = shape a.s c.requires.0 in
+    let j : ℕ = c.loop-j.j in
+    let next = row_after a.s h a.due a.p (c.symbols-ring.result - 1) c.loop-j.row (c.loop-j.j * 2) _ (omega arith) c.loop-j.invariant.1 c.next_row-next.ensures in
+    let turned : j * 2 + 1 + 1 ≡ (j + 1) * 2 = omega arith in (
+      omega (arith, c.sources.ensures),
+      row_after a.s h a.due a.p (c.symbols-ring.result - 1) c.next_row-next.result (j * 2 + 1) _ (omega arith) next c.next_row-row.ensures
+          ∙ ap (row_of a.s a.due a.p) turned,
       c.pair_up.ensures
-          ∙ gathered_more c.args.rows.now c.args.s.lanes (source_of c.args.s c.args.due c.args.p) c.args.pairs.now c.loop-j.j c.loop-j.pairs c.source-first.result
+          ∙ gathered_more a.rows.now a.s.lanes (source_of a.s a.due a.p) a.pairs.now j c.loop-j.pairs c.source-first.result
           c.source-second.result c.loop-j.invariant.2
-          (c.source-first.ensures ∙ ap (λ (row : ℕ). source_in c.args.s row (c.loop-j.j * 2)) c.loop-j.invariant.1)
-          (c.source-second.ensures ∙ ap (λ (row : ℕ). source_in c.args.s row (c.loop-j.j * 2 + 1)) (is_next)),
+          (c.source-first.ensures ∙ ap (λ (row : ℕ). source_in a.s row (j * 2)) c.loop-j.invariant.1)
+          (c.source-second.ensures ∙ ap (λ (row : ℕ). source_in a.s row (j * 2 + 1)) next),
     )
 
 pub returns : goal.returns
 returns c =
-    let all : c.loop-j.j ≡ pairs_of (k_of c.args.s) = omega (arith, c.sources.ensures) in
-    c.loop-j.invariant.2 ∙ ap (λ (m : ℕ). gathered_of c.args.rows.now c.args.s.lanes (source_of c.args.s c.args.due c.args.p) m c.args.pairs.now) all
+    let a = c.args in
+    let all : c.loop-j.j ≡ pairs_of (k_of a.s) = omega (arith, c.sources.ensures) in
+    c.loop-j.invariant.2 ∙ ap (λ (m : ℕ). gathered_of a.rows.now a.s.lanes (source_of a.s a.due a.p) m a.pairs.now) all

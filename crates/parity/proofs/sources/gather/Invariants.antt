@@ -1,17 +1,9 @@
 -- The loop puts two source symbols of every lane into their pair a turn; row is the one that holds source symbol 2j.
-use borrow.Author.Rules.{rules}
-use mathlib.Core.Path.{◌≡◌, refl, sym, ap, subst⁻¹, ◌∙◌}
-use native.Mathlib.Omega.{arith}
-use Prim.Native.Nat.{ℕ, ◌+◌, ◌-◌, ◌*◌, ◌%◌, ◌≤◌, ◌<◌}
-use lib.ListN.{length}
-use Rattle.gathering.specs.Pairs.{pairs_of, Wide, gathered_of}
-use Rattle.gathering.specs.declared.Source.{Source}
-use Rattle.gathering.proofs.Gathered.{gathered_more, gathered_wide}
-use Rattle.code.specs.Settings.{k_of, n_of}
-use Rattle.code.proofs.Shape.{Shape, shape}
-use Rattle.parity.specs.Sources.{source_in, row_of, source_of}
-use Rattle.parity.proofs.Places.{row_first, row_next, row_below}
-use Rattle.parity.proofs.Gathered.{source_held}
+use mathlib.Core.Path.{◌≡◌}
+use Prim.Native.Nat.{◌-◌, ◌*◌, ◌≤◌}
+use Rattle.gathering.specs.Pairs.{pairs_of, gathered_of}
+use Rattle.code.specs.Settings.{k_of}
+use Rattle.parity.specs.Sources.{row_of, source_of}
 use Rattle.parity.proofs.sources.gather.Given as goal
 
 abbrev pub invariant-loop-j : goal.invariant-loop-j

@@ -3,7 +3,6 @@ use mathlib.Core.Path.{sym, ap, ◌∙◌}
 use native.Mathlib.Nat.{mod_self, mod-eq_of_lt}
 use native.Mathlib.Omega.{arith}
 use Prim.Native.Nat.{ℕ, ◌+◌, ◌%◌, ◌<◌}
-use borrow.Author.Rules.{rules}
 use lib.Arith.{lt_of_le-ne}
 use Rattle.parity.proofs.sources.next_row.Goals as goal
 

@@ -1,52 +1,44 @@
 -- A source symbol stands in its row.
-use borrow.Author.Rules.{rules}
 use mathlib.Core.Path.{◌≡◌, ap, ◌∙◌}
 use native.Mathlib.Omega.{arith}
-use Prim.Native.Nat.{ℕ, ◌+◌, ◌*◌, ◌≤◌}
-use Rattle.gathering.specs.declared.Source.{Source}
+use Prim.Native.Nat.{ℕ, ◌+◌, ◌-◌, ◌*◌, ◌≤◌, ◌<◌}
+use lib.Dec.{T}
+use Rattle.code.specs.declared.settings.Settings.{Settings}
+use Rattle.code.specs.Settings.{accepted, k_of, n_of}
 use Rattle.code.proofs.Shape.{Shape, shape}
 use Rattle.protocol.specs.Lengths.{message_len}
 use Rattle.parity.proofs.Places.{rows_few, source_ends}
 use Rattle.parity.proofs.Gathered.{source_inside, source_past}
 use Rattle.parity.proofs.sources.source.Goals as goal
 
+-- a symbol ends within the rows, which are few
+few : (s : Settings) (row i m : ℕ) → T (accepted s) → row < n_of s - 1 → i < k_of s → m ≡ message_len s
+    → row * m + i * s.lanes ≤ 15360
+few s row i m passed below inside is =
+    let shaped : Shape s = shape s passed in
+    let placed : row * m ≡ row * message_len s = ap (λ (n : ℕ). row * n) is in
+    omega (arith, source_ends s shaped row i below inside, rows_few s shaped)
+
 pub overflow_mul-start : goal.overflow_mul-start
 overflow_mul-start c =
-    let is_row : c.args.row * c.message_len.result ≡ c.args.row * message_len c.args.s = ap (λ (m : ℕ). c.args.row * m) c.message_len.ensures in
-    let shaped : Shape c.args.s = shape c.args.s c.requires.0 in
-    let few : c.args.row * message_len c.args.s + c.args.i * c.args.s.lanes ≤ 15360 = omega (
-      arith,
-      source_ends c.args.s shaped c.args.row c.args.i c.requires.1 (omega arith),
-      rows_few c.args.s shaped,
-    ) in
-    omega (arith, is_row, few)
+    let ends = few c.args.s c.args.row c.args.i c.message_len.result c.requires.0 c.requires.1 (omega arith) c.message_len.ensures in
+    omega arith
 
 pub overflow_mul-start-then-i-sources : goal.overflow_mul-start-then-i-sources
 overflow_mul-start-then-i-sources c =
-    let shaped : Shape c.args.s = shape c.args.s c.requires.0 in
-    let few : c.args.row * message_len c.args.s + c.args.i * c.args.s.lanes ≤ 15360 = omega (
-      arith,
-      source_ends c.args.s shaped c.args.row c.args.i c.requires.1 (omega arith),
-      rows_few c.args.s shaped,
-    ) in
-    omega (arith, few)
+    let ends = few c.args.s c.args.row c.args.i c.message_len.result c.requires.0 c.requires.1 (omega arith) c.message_len.ensures in
+    omega arith
 
 pub overflow_add-start : goal.overflow_add-start
 overflow_add-start c =
-    let is_row : c.args.row * c.message_len.result ≡ c.args.row * message_len c.args.s = ap (λ (m : ℕ). c.args.row * m) c.message_len.ensures in
-    let shaped : Shape c.args.s = shape c.args.s c.requires.0 in
-    let few : c.args.row * message_len c.args.s + c.args.i * c.args.s.lanes ≤ 15360 = omega (
-      arith,
-      source_ends c.args.s shaped c.args.row c.args.i c.requires.1 (omega arith),
-      rows_few c.args.s shaped,
-    ) in
-    omega (arith, is_row, few)
+    let ends = few c.args.s c.args.row c.args.i c.message_len.result c.requires.0 c.requires.1 (omega arith) c.message_len.ensures in
+    omega arith
 
 pub returns-then-i-sources : goal.returns-then-i-sources
 returns-then-i-sources c =
-    let is_row : c.args.row * c.message_len.result ≡ c.args.row * message_len c.args.s = ap (λ (m : ℕ). c.args.row * m) c.message_len.ensures in
-    ap (λ (m : ℕ). record { start = m + c.args.i * c.args.s.lanes; keep = 255 }) (is_row) ∙ source_inside c.args.s c.args.row c.args.i (omega arith)
+    let a = c.args in
+    ap (λ (m : ℕ). record { start = a.row * m + a.i * a.s.lanes; keep = 255 }) c.message_len.ensures
+    ∙ source_inside a.s a.row a.i (omega arith)
 
 pub returns : goal.returns
-returns c =
-    source_past c.args.s c.args.row c.args.i (omega arith)
+returns c = source_past c.args.s c.args.row c.args.i (omega arith)
