@@ -1,21 +1,15 @@
 -- Each turn compares one part, and the rest lies in one or two more.
-use borrow.Author.Tests.{not-true, not-false}
-use mathlib.Core.Path.{◌≡◌, refl, sym, ap₂, ◌∙◌}
+use mathlib.Core.Path.{refl, sym, ap₂, ◌∙◌}
 use mathlib.Core.Bool.{◌&&◌}
-use mathlib.Core.List.{List}
 use native.Mathlib.Omega.{arith}
-use Prim.Native.Nat.{ℕ, ◌-◌, ◌≤◌, zero-le}
+use Prim.Native.Nat.{zero-le}
 use lib.ListN.{length}
-use Rattle.joiner.proofs.Blocks.{Same, part_differs, further, last_part, two_parts}
+use Rattle.joiner.proofs.Blocks.{part_differs, further, last_part, two_parts}
 use Rattle.joiner.proofs.bytes.alike.Goals as goal
 
 pub loop-k-init : goal.loop-k-init
 loop-k-init c =
     (zero-le, refl, λ j low high. absurd (omega arith))
-
-pub overflow_sub-end : goal.overflow_sub-end
-overflow_sub-end c =
-    c.loop-k.invariant.0
 
 pub same_part-requires : goal.same_part-requires
 same_part-requires c =
@@ -27,30 +21,13 @@ returns-then-not-same_part c =
     (part_differs c.args.a.now c.args.b.now (length c.args.a.now) c.loop-k.k 32 (omega (arith, c.loop-k-test.true))
     (sym c.same_part.ensures ∙ c.if-not-same_part.true))
 
-pub overflow_add-k : goal.overflow_add-k
-overflow_add-k c =
-    record { fits = omega (arith, c.loop-k-test.true, (c).good.0.0) }
-
-pub loop-k-smaller : goal.loop-k-smaller
-loop-k-smaller c =
-    omega (arith, c.loop-k-test.true)
-
 pub loop-k-preserved : goal.loop-k-preserved
-loop-k-preserved c =
-    (
-      omega (arith, c.loop-k-test.true),
-      c.loop-k.invariant.1,
-      further c.args.a.now c.args.b.now c.loop-k.k 32 c.loop-k.invariant.2
-          (sym c.same_part.ensures ∙ c.if-not-same_part.false),
-    )
-
-pub overflow_sub-end-2 : goal.overflow_sub-end-2
-overflow_sub-end-2 c =
-    c.loop-k.invariant.0
-
-pub overflow_sub-end-then-end-k-lt16 : goal.overflow_sub-end-then-end-k-lt16
-overflow_sub-end-then-end-k-lt16 c =
-    c.requires.0
+loop-k-preserved c = (
+  omega (arith, c.loop-k-test.true),
+  c.loop-k.invariant.1,
+  further c.args.a.now c.args.b.now c.loop-k.k 32 c.loop-k.invariant.2
+      (sym c.same_part.ensures ∙ c.if-not-same_part.false),
+)
 
 pub same_part-requires-then-end-k-lt16 : goal.same_part-requires-then-end-k-lt16
 same_part-requires-then-end-k-lt16 c =
@@ -64,10 +41,6 @@ returns-then-end-k-lt16 c =
 pub same_part-requires-2 : goal.same_part-requires-2
 same_part-requires-2 c =
     (omega (arith, c.if-end-k-lt16.false), c.requires.1)
-
-pub overflow_sub-end-3 : goal.overflow_sub-end-3
-overflow_sub-end-3 c =
-    c.requires.0
 
 pub same_part-requires-3 : goal.same_part-requires-3
 same_part-requires-3 c =

@@ -1,12 +1,8 @@
 -- Each turn compares one part, and the rest lies in one or two more.
-use borrow.Author.Tests.{not-true, not-false}
-use mathlib.Core.Path.{◌≡◌, refl, sym, ap₂, ◌∙◌}
-use mathlib.Core.Bool.{◌&&◌}
-use mathlib.Core.List.{List}
-use native.Mathlib.Omega.{arith}
-use Prim.Native.Nat.{ℕ, ◌-◌, ◌≤◌, zero-le}
+use mathlib.Core.Path.{◌≡◌}
+use Prim.Native.Nat.{◌-◌, ◌≤◌}
 use lib.ListN.{length}
-use Rattle.joiner.proofs.Blocks.{Same, part_differs, further, last_part, two_parts}
+use Rattle.joiner.proofs.Blocks.{Same}
 use Rattle.joiner.proofs.bytes.alike.Given as goal
 
 abbrev pub invariant-loop-k : goal.invariant-loop-k

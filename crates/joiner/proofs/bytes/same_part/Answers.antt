@@ -2,9 +2,7 @@
 use mathlib.Core.Path.{◌≡◌, refl}
 use native.Mathlib.Nat.{le_antisymm}
 use native.Mathlib.Omega.{arith}
-use Prim.Native.Nat.{suc, ◌+◌, ◌-◌, ◌≤◌, zero-le}
-use lib.Dec.{eqb}
-use lib.ListN.{get_or}
+use Prim.Native.Nat.{suc, ◌+◌, zero-le}
 use Rattle.galois.specs.Bounded.{every}
 use Rattle.joiner.proofs.bytes.same_part.Goals as goal
 
@@ -12,30 +10,6 @@ pub loop-i-init : goal.loop-i-init
 unfolding every
 loop-i-init c =
     (zero-le, refl)
-
-pub overflow_add-same : goal.overflow_add-same
-overflow_add-same c =
-    record { fits = omega (arith, c.loop-i-test.true, c.requires.0, c.well_formed.0.0) }
-
-pub bounds-a-start : goal.bounds-a-start
-bounds-a-start c =
-    omega (arith, c.loop-i-test.true, c.requires.0)
-
-pub overflow_add-same-in-loop-i : goal.overflow_add-same-in-loop-i
-overflow_add-same-in-loop-i c =
-    record { fits = omega (arith, c.loop-i-test.true, c.requires.0, c.well_formed.0.0) }
-
-pub bounds-b-start : goal.bounds-b-start
-bounds-b-start c =
-    omega (arith, c.loop-i-test.true, c.requires.0, c.requires.1)
-
-pub overflow_add-i : goal.overflow_add-i
-overflow_add-i c =
-    record { fits = omega (arith, c.loop-i-test.true, c.requires.0, c.well_formed.0.0) }
-
-pub loop-i-smaller : goal.loop-i-smaller
-loop-i-smaller c =
-    omega (arith, c.loop-i-test.true)
 
 pub loop-i-preserved : goal.loop-i-preserved
 unfolding every
@@ -46,4 +20,4 @@ loop-i-preserved c =
 pub returns : goal.returns
 returns c =
     let all : c.loop-i.i ≡ c.args.count = le_antisymm c.loop-i.invariant.0 c.loop-i-test.false in
-    rw all c.loop-i c.loop-i.invariant.1
+    rw all at c.loop-i.invariant.1

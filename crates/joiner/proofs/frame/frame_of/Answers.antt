@@ -1,5 +1,4 @@
 -- The frame lies inside the recording.
-use borrow.Author.Rules.{rules}
 use mathlib.Core.Path.{◌≡◌, refl, ap}
 use mathlib.Core.List.{List}
 use native.Mathlib.Omega.{arith}
@@ -37,4 +36,8 @@ slice_bounds-result-end c =
 pub returns : goal.returns
 returns c =
     let place = ap (λ (k : ℕ). c.args.n * k) c.frame_len-size.ensures in
-    (cut c.args.s c.args.recording.now c.args.n c.frame_len-size.result c.frame_len-size.ensures, (refl, omega arith))
+    record {
+      bytes = cut c.args.s c.args.recording.now c.args.n c.frame_len-size.result c.frame_len-size.ensures;
+      whose = refl;
+      start = omega arith;
+    }

@@ -1,5 +1,4 @@
 -- One division.
-use borrow.Author.Rules.{rules}
 use native.Mathlib.Omega.{arith}
 use Rattle.aerials.specs.Pair.{frames_in}
 use Rattle.aerials.proofs.FrameLaws.{frame_long}

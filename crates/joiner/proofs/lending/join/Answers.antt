@@ -1,5 +1,4 @@
 -- A refused pair, or what is lent of an accepted one.
-use borrow.Author.Rules.{rules}
 use mathlib.Core.Path.{◌≡◌, refl, sym}
 use native.Mathlib.Omega.{arith}
 use Prim.Native.Nat.{◌-◌}
@@ -11,7 +10,7 @@ pub returns-then-pair_cause-ne0 : goal.returns-then-pair_cause-ne0
 returns-then-pair_cause-ne0 c =
     rw (join_refused c.args.s c.args.first.now c.args.second.now c.args.slot (pair_cause c.args.s c.args.first.now c.args.second.now - 1)
     (omega (arith, c.pair_cause.ensures, c.if-pair_cause-ne0.true)))
-    (sym (no_bytes c.args.first.now c.args.second.now), (refl, omega arith))
+    (record { bytes = sym (no_bytes c.args.first.now c.args.second.now); whose = refl; start = omega arith })
 
 pub returns : goal.returns
 returns c =

@@ -1,5 +1,4 @@
 -- Slots rise in both.
-use borrow.Author.Rules.{rules}
 use mathlib.Core.Path.{ap₂, ◌∙◌}
 use Rattle.aerials.specs.Sound.{Rising}
 use Rattle.aerials.specs.Next.{earlier, next_of}

@@ -1,17 +1,15 @@
 -- Each turn passes a frame, or two that stand for one slot and are alike.
-use borrow.Author.Rules.{rules}
-use borrow.Author.Tests.{not-true, not-false}
 use mathlib.Core.Path.{◌≡◌, sym, ap, ◌∙◌}
 use mathlib.Core.List.{List}
 use native.Mathlib.Omega.{arith}
-use Prim.Native.Nat.{ℕ, suc, ◌+◌, ◌-◌, ◌≤◌, ◌<◌, zero-le}
+use Prim.Native.Nat.{ℕ, suc, ◌+◌, ◌<◌, zero-le}
 use lib.ListN.{length}
 use Rattle.frames.specs.Fields.{slot_in}
 use Rattle.protocol.specs.Lengths.{frame_len}
 use Rattle.protocol.specs.Causes.{agree}
 use Rattle.aerials.specs.Pair.{frames_in, frame_of, slot_of}
-use Rattle.aerials.proofs.FrameLaws.{frames_few, frame_body, frame_length, header_inside}
-use Rattle.joiner.proofs.Overlaps.{Passed, none_passed, first_behind, second_behind, both_alike, none_unlike, one_unlike}
+use Rattle.aerials.proofs.FrameLaws.{frame_body, frame_length, header_inside}
+use Rattle.joiner.proofs.Overlaps.{none_passed, first_behind, second_behind, both_alike, none_unlike, one_unlike}
 use Rattle.joiner.proofs.overlap.unlike.Goals as goal
 
 alike_by : (m n : ℕ) (a b x y : List ℕ) → m ≡ n → a ≡ x → b ≡ y → agree m a b ≡ agree n x y
@@ -47,17 +45,6 @@ slot_of-y-requires c =
     let in-second : c.loop-i.j < frames_in c.args.s c.args.second.now = omega (arith, c.if-n-j.false, c.loop-i.invariant.3) in
     header_inside c.args.s c.args.second.now _ (in-second) _ c.frame_of-b.ensures.bytes
 
-pub overflow_add-i : goal.overflow_add-i
-overflow_add-i c =
-    let in-first : c.loop-i.i < frames_in c.args.s c.args.first.now = omega (arith, c.loop-i-test.true, c.loop-i.invariant.2) in
-    let few_first : frames_in c.args.s c.args.first.now < 18446744073709551616 = omega (arith, frames_few c.args.s c.args.first.now, c.well_formed.1.0.0) in
-    record { fits = omega (arith, in-first, few_first) }
-
-pub loop-i-smaller-then-x-y : goal.loop-i-smaller-then-x-y
-loop-i-smaller-then-x-y c =
-    let in-first : c.loop-i.i < frames_in c.args.s c.args.first.now = omega (arith, c.loop-i-test.true, c.loop-i.invariant.2) in
-    omega (arith, in-first, c.loop-i.invariant.2)
-
 pub loop-i-preserved-then-x-y : goal.loop-i-preserved-then-x-y
 unfolding slot_of
 loop-i-preserved-then-x-y c =
@@ -74,17 +61,6 @@ loop-i-preserved-then-x-y c =
           (first_behind c.args.s c.args.first.now c.args.second.now c.requires.1 c.requires.2 c.loop-i.i c.loop-i.j
           c.loop-i.invariant.4 (in-first) (in-second) (omega (arith, first_slot, second_slot, c.if-x-y.true))),
     )
-
-pub overflow_add-j : goal.overflow_add-j
-overflow_add-j c =
-    let in-second : c.loop-i.j < frames_in c.args.s c.args.second.now = omega (arith, c.if-n-j.false, c.loop-i.invariant.3) in
-    let few_second : frames_in c.args.s c.args.second.now < 18446744073709551616 = omega (arith, frames_few c.args.s c.args.second.now, c.well_formed.1.1.0.0) in
-    record { fits = omega (arith, in-second, few_second) }
-
-pub loop-i-smaller-then-y-x : goal.loop-i-smaller-then-y-x
-loop-i-smaller-then-y-x c =
-    let in-second : c.loop-i.j < frames_in c.args.s c.args.second.now = omega (arith, c.if-n-j.false, c.loop-i.invariant.3) in
-    omega (arith, in-second, c.loop-i.invariant.3)
 
 pub loop-i-preserved-then-y-x : goal.loop-i-preserved-then-y-x
 unfolding slot_of
@@ -126,29 +102,12 @@ returns-then-not-alike c =
     (one_unlike c.args.s c.args.first.now c.args.second.now c.loop-i.i c.loop-i.j (in-first) (in-second) (same_slot)
     (sym (compared) ∙ c.if-not-alike.true))
 
-pub overflow_add-i-else-y-x : goal.overflow_add-i-else-y-x
-overflow_add-i-else-y-x c =
-    let in-first : c.loop-i.i < frames_in c.args.s c.args.first.now = omega (arith, c.loop-i-test.true, c.loop-i.invariant.2) in
-    let few_first : frames_in c.args.s c.args.first.now < 18446744073709551616 = omega (arith, frames_few c.args.s c.args.first.now, c.well_formed.1.0.0) in
-    record { fits = omega (arith, in-first, few_first) }
-
-pub overflow_add-j-else-y-x : goal.overflow_add-j-else-y-x
-overflow_add-j-else-y-x c =
-    let in-second : c.loop-i.j < frames_in c.args.s c.args.second.now = omega (arith, c.if-n-j.false, c.loop-i.invariant.3) in
-    let few_second : frames_in c.args.s c.args.second.now < 18446744073709551616 = omega (arith, frames_few c.args.s c.args.second.now, c.well_formed.1.1.0.0) in
-    record { fits = omega (arith, in-second, few_second) }
-
-pub loop-i-smaller : goal.loop-i-smaller
-loop-i-smaller c =
-    let in-first : c.loop-i.i < frames_in c.args.s c.args.first.now = omega (arith, c.loop-i-test.true, c.loop-i.invariant.2) in
-    omega (arith, in-first, c.loop-i.invariant.2)
-
 pub loop-i-preserved : goal.loop-i-preserved
 unfolding slot_of
 loop-i-preserved c =
+    let in-first : c.loop-i.i < frames_in c.args.s c.args.first.now = omega (arith, c.loop-i-test.true, c.loop-i.invariant.2) in
     let compared : c.alike.result ≡ agree (frame_len c.args.s) (frame_of c.args.s c.args.first.now c.loop-i.i) (frame_of c.args.s c.args.second.now c.loop-i.j) = let size = ap length c.frame_of-a.ensures.bytes ∙ frame_length c.args.s c.args.first.now _ (in-first) in
     c.alike.ensures ∙ alike_by _ _ _ _ _ _ size c.frame_of-a.ensures.bytes c.frame_of-b.ensures.bytes in
-    let in-first : c.loop-i.i < frames_in c.args.s c.args.first.now = omega (arith, c.loop-i-test.true, c.loop-i.invariant.2) in
     let in-second : c.loop-i.j < frames_in c.args.s c.args.second.now = omega (arith, c.if-n-j.false, c.loop-i.invariant.3) in
     let first_slot : c.slot_of-x.result ≡ slot_of c.args.s c.args.first.now c.loop-i.i = c.slot_of-x.ensures ∙ ap slot_in c.frame_of-a.ensures.bytes in
     let second_slot : c.slot_of-y.result ≡ slot_of c.args.s c.args.second.now c.loop-i.j = c.slot_of-y.ensures ∙ ap slot_in c.frame_of-b.ensures.bytes in

@@ -1,9 +1,8 @@
 -- No frame, all above, all below, or few between.
-use borrow.Author.Rules.{rules}
 use mathlib.Core.Path.{◌≡◌, sym, ap, ap₂, ◌∙◌}
 use mathlib.Core.List.{List}
 use native.Mathlib.Omega.{arith}
-use Prim.Native.Nat.{ℕ, suc, ◌+◌, ◌-◌, ◌<◌, min}
+use Prim.Native.Nat.{ℕ, suc, ◌+◌, ◌-◌, min}
 use Rattle.code.specs.declared.settings.Settings.{Settings}
 use Rattle.frames.specs.Fields.{slot_in}
 use Rattle.aerials.specs.Pair.{frames_in, slot_of}
@@ -42,10 +41,6 @@ returns-then-slot-first c =
     let first-is : c.slot_of-first.result ≡ slot_of c.args.s c.args.recording.now 0 = c.slot_of-first.ensures ∙ ap slot_in c.frame_of.ensures.bytes in
     none_below c.args.s c.args.recording.now c.args.slot c.requires (omega (arith, first-is, c.if-slot-first.true))
 
-pub overflow_sub-count : goal.overflow_sub-count
-overflow_sub-count c =
-    omega (arith, c.if-count-eq0.false)
-
 pub frame_of-requires-2 : goal.frame_of-requires-2
 frame_of-requires-2 c =
     let some : frames_in c.args.s c.args.recording.now ≡ suc (c.frames_in-count.result - 1) = omega (arith, c.frames_in-count.ensures, c.if-count-eq0.false) in
@@ -64,18 +59,6 @@ returns-then-last-slot c =
     let all = all-below c.args.s c.args.recording.now c.args.slot c.requires (c.frames_in-count.result - 1) (some)
     (omega (arith, last-is, c.if-last-slot.true)) in
     omega (arith, all, some, c.frames_in-count.ensures)
-
-pub overflow_add-last : goal.overflow_add-last
-overflow_add-last c =
-    record { fits = omega (arith, c.if-slot-first.false) }
-
-pub overflow_sub-low : goal.overflow_sub-low
-overflow_sub-low c =
-    omega (arith, c.at_most.ensures)
-
-pub overflow_sub-slot : goal.overflow_sub-slot
-overflow_sub-slot c =
-    omega (arith, c.if-slot-first.false)
 
 pub halve-requires : goal.halve-requires
 unfolding slot_of

@@ -1,13 +1,11 @@
 -- Each turn halves what lies between.
 use mathlib.Core.Path.{◌≡◌, sym, ap, ◌∙◌}
 use native.Mathlib.Omega.{arith}
-use Prim.Native.Nat.{ℕ, ◌+◌, ◌-◌, ◌/◌, ◌≤◌, ◌<◌}
-use lib.ListN.{length}
+use Prim.Native.Nat.{ℕ, ◌+◌, ◌-◌, ◌/◌, ◌<◌}
 use Rattle.frames.specs.Fields.{slot_in}
 use Rattle.aerials.specs.Pair.{frames_in, slot_of}
-use Rattle.aerials.proofs.FrameLaws.{frames_few, header_inside}
+use Rattle.aerials.proofs.FrameLaws.{header_inside}
 use Rattle.aerials.proofs.PartLaws.{below_at}
-use Rattle.joiner.specs.Halving.{Bracket}
 use Rattle.joiner.proofs.Halving.{up, down, closed}
 use Rattle.joiner.proofs.search.halve.Goals as goal
 
@@ -17,15 +15,6 @@ middle low high h = omega arith
 pub loop-bottom-init : goal.loop-bottom-init
 loop-bottom-init c =
     c.requires.1
-
-pub overflow_sub-mid : goal.overflow_sub-mid
-overflow_sub-mid c =
-    omega (arith, c.loop-bottom-test.true)
-
-pub overflow_add-mid : goal.overflow_add-mid
-overflow_add-mid c =
-    let few : c.loop-bottom.top ≤ length c.args.recording.now = omega (arith, c.loop-bottom.invariant.within, frames_few c.args.s c.args.recording.now) in
-    record { fits = omega (arith, few, middle c.loop-bottom.bottom c.loop-bottom.top c.loop-bottom-test.true, (c).good.1.0.0) }
 
 pub frame_of-requires : goal.frame_of-requires
 frame_of-requires c =
@@ -48,17 +37,6 @@ returns-then-here-slot c =
     let found = below_at c.args.s c.args.recording.now c.requires.0 _ (inside) in
     sym (rw (sym (read) ∙ c.if-here-slot.true) at found)
 
-pub overflow_add-bottom : goal.overflow_add-bottom
-overflow_add-bottom c =
-    let few : c.loop-bottom.top ≤ length c.args.recording.now = omega (arith, c.loop-bottom.invariant.within, frames_few c.args.s c.args.recording.now) in
-    record {
-      fits = omega (arith, few, middle c.loop-bottom.bottom c.loop-bottom.top c.loop-bottom-test.true, (c).good.1.0.0);
-    }
-
-pub loop-bottom-smaller-then-here-slot-2 : goal.loop-bottom-smaller-then-here-slot-2
-loop-bottom-smaller-then-here-slot-2 c =
-    omega (arith, c.loop-bottom-test.true)
-
 pub loop-bottom-preserved-then-here-slot-2 : goal.loop-bottom-preserved-then-here-slot-2
 unfolding slot_of
 loop-bottom-preserved-then-here-slot-2 c =
@@ -66,10 +44,6 @@ loop-bottom-preserved-then-here-slot-2 c =
     up c.args.s c.args.recording.now c.args.slot c.requires.0 c.loop-bottom.bottom c.loop-bottom.top _
     c.loop-bottom.invariant (omega arith) (middle c.loop-bottom.bottom c.loop-bottom.top c.loop-bottom-test.true)
     (omega (arith, read, c.if-here-slot-2.true))
-
-pub loop-bottom-smaller : goal.loop-bottom-smaller
-loop-bottom-smaller c =
-    omega (arith, c.loop-bottom-test.true)
 
 pub loop-bottom-preserved : goal.loop-bottom-preserved
 unfolding slot_of

@@ -1,18 +1,17 @@
 -- Each turn looks at one frame.
-use borrow.Author.Rules.{rules}
 use mathlib.Core.Path.{◌≡◌, ap, ◌∙◌}
 use mathlib.Core.List.{List}
 use native.Mathlib.Nat.{le_antisymm}
 use native.Mathlib.Omega.{arith}
-use Prim.Native.Nat.{ℕ, suc, ◌+◌, ◌-◌, ◌≤◌, ◌<◌, zero-le}
+use Prim.Native.Nat.{ℕ, suc, ◌+◌, ◌≤◌, ◌<◌, zero-le}
 use lib.ListN.{length, drop}
 use Rattle.frames.specs.Fields.{slot_in}
-use Rattle.protocol.specs.Frame.{mark, five, header}
+use Rattle.protocol.specs.Frame.{mark, five}
 use Rattle.protocol.specs.Causes.{agree}
 use Rattle.protocol.proofs.HeaderTests.{mark_test, five_test}
 use Rattle.aerials.specs.Pair.{frames_in, slot_of, other_mark, other_settings, falling}
 use Rattle.aerials.proofs.FrameLaws.{frames_few, header_inside}
-use Rattle.joiner.proofs.Walking.{Walked, none_walked, one_more}
+use Rattle.joiner.proofs.Walking.{none_walked, one_more}
 use Rattle.joiner.proofs.walk.walk.Goals as goal
 
 pub loop-n-init : goal.loop-n-init
@@ -42,24 +41,14 @@ agrees-requires-in-loop-n c =
     let long : 14 ≤ length c.frame_of-frame.result.now = header_inside c.args.s c.args.recording.now c.loop-n.n (inside) _ c.frame_of-frame.ensures.bytes in
     (omega arith, omega arith, long)
 
-pub overflow_add-least : goal.overflow_add-least
-overflow_add-least c =
-    record { fits = omega arith }
-
 pub overflow_add-n : goal.overflow_add-n
 overflow_add-n c =
-    let inside : c.loop-n.n < frames_in c.args.s c.args.recording.now = omega (arith, c.loop-n-test.true, c.loop-n.invariant.1) in
-    record { fits = omega (arith, inside, frames_few c.args.s c.args.recording.now, (c).good.1.0.0) }
-
-pub loop-n-smaller : goal.loop-n-smaller
-loop-n-smaller c =
-    omega (arith, c.loop-n-test.true)
+    omega (arith, c.loop-n-test.true, c.loop-n.invariant.1, frames_few c.args.s c.args.recording.now)
 
 pub loop-n-preserved : goal.loop-n-preserved
 unfolding slot_of
 loop-n-preserved c =
-    let next : c.loop-n.n + 1 ≡ suc c.loop-n.n = omega arith in
-    (
+    let next : c.loop-n.n + 1 ≡ suc c.loop-n.n = omega arith in (
       omega (arith, c.loop-n-test.true),
       c.loop-n.invariant.1,
       c.loop-n.invariant.2,
@@ -75,4 +64,8 @@ pub returns : goal.returns
 unfolding other_mark other_settings falling
 returns c =
     let n = le_antisymm c.loop-n.invariant.0 c.loop-n-test.false ∙ c.loop-n.invariant.1 in
-    rw (← n) (c.loop-n.invariant.3.marked, (c.loop-n.invariant.3.settled, c.loop-n.invariant.3.fell))
+    rw (← n) (record {
+      mark = c.loop-n.invariant.3.marked;
+      settings = c.loop-n.invariant.3.settled;
+      falling = c.loop-n.invariant.3.fell;
+    })
