@@ -1,12 +1,11 @@
 -- Each turn asks for one slot.
-use borrow.Author.Rules.{rules}
 use mathlib.Core.Path.{◌≡◌, refl, sym, ap, ◌∙◌}
 use mathlib.Core.Bool.{Bool, true, false, not, cond}
 use mathlib.Core.Logic.{◌≢◌}
 use mathlib.Core.List.{List}
 use native.Mathlib.Nat.{le_antisymm}
 use native.Mathlib.Omega.{arith}
-use Prim.Native.Nat.{ℕ, suc, ◌+◌, ◌-◌, ◌≤◌, zero-le}
+use Prim.Native.Nat.{ℕ, suc, ◌+◌, ◌≤◌, zero-le}
 use lib.Dec.{eqb}
 use lib.ListN.{length}
 use Rattle.galois.specs.Bounded.{count}
@@ -46,24 +45,12 @@ unfolding heard_slots count
 loop-slot-init c =
     (zero-le, zero-le, c.settings_at-s.ensures, sym c.pair_cause.ensures ∙ c.if-pair_cause-ne0.false, refl)
 
-pub part-requires : goal.part-requires
-part-requires c =
-    c.loop-slot.invariant.3
-
 pub overflow_add-heard : goal.overflow_add-heard
 overflow_add-heard c =
     let few : c.counted-heard.result ≤ 1 = rw c.counted-heard.ensures (at_most_one (not (eqb (length c.part.result.now) 0))) in
     record {
       fits = omega (arith, c.loop-slot.invariant.1, c.loop-slot-test.true, few, c.well_formed.1.1.1.0.1);
     }
-
-pub overflow_add-slot : goal.overflow_add-slot
-overflow_add-slot c =
-    record { fits = omega (arith, c.loop-slot-test.true, c.well_formed.1.1.1.0.1) }
-
-pub loop-slot-smaller : goal.loop-slot-smaller
-loop-slot-smaller c =
-    omega (arith, c.loop-slot-test.true)
 
 pub loop-slot-preserved : goal.loop-slot-preserved
 unfolding joined_len

@@ -1,5 +1,4 @@
 -- The length of what is lent.
-use borrow.Author.Rules.{rules}
 use mathlib.Core.Path.{◌∙◌, ap}
 use lib.ListN.{length}
 use Rattle.code.specs.declared.settings.Settings.{Settings}
