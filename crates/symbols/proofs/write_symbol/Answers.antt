@@ -22,9 +22,6 @@ use Rattle.symbols.proofs.Pivots.{left_said}
 use Rattle.symbols.proofs.Answers.{told_and_kept}
 use Rattle.symbols.proofs.write_symbol.Goals as goal
 
-abbrev read : tie.Start → List ℕ
-read c = let a = c.args in flags_of a.s a.rows.now (a.due + a.i) a.t a.i
-
 pub locate-requires : goal.locate-requires
 locate-requires c =
     (c.requires.0, c.requires.2, refl, refl, refl)
@@ -36,9 +33,9 @@ eliminate-reduced-requires c =
 pub answer-requires : goal.answer-requires
 answer-requires c =
     let shaped : Shape c.args.s = shape c.args.s c.requires.0.settings in
-    let reduced : both c.eliminate-reduced.result c.eliminate-reduced.new.roles ≡ eliminated c.args.s (known_in c.args.s (read c)) = c.eliminate-reduced.ensures.reduced
-    ∙ located_eliminated c.args.s c.requires.0.settings (read c) _ _ _ c.requires.3 c.locate.ensures.flags c.locate.ensures.roles in
-    let reduced-by : both c.eliminate-reduced.result c.eliminate-reduced.new.roles ≡ reduced_of c.args.s (read c) = reduced ∙ eliminated_reduced c.args.s (read c) (is_true _ c.requires.0.settings) in
+    let reduced : both c.eliminate-reduced.result c.eliminate-reduced.new.roles ≡ eliminated c.args.s (known_in c.args.s (flags_of c.args.s c.args.rows.now (c.args.due + c.args.i) c.args.t c.args.i)) = c.eliminate-reduced.ensures.reduced
+    ∙ located_eliminated c.args.s c.requires.0.settings (flags_of c.args.s c.args.rows.now (c.args.due + c.args.i) c.args.t c.args.i) _ _ _ c.requires.3 c.locate.ensures.flags c.locate.ensures.roles in
+    let reduced-by : both c.eliminate-reduced.result c.eliminate-reduced.new.roles ≡ reduced_of c.args.s (flags_of c.args.s c.args.rows.now (c.args.due + c.args.i) c.args.t c.args.i) = reduced ∙ eliminated_reduced c.args.s (flags_of c.args.s c.args.rows.now (c.args.due + c.args.i) c.args.t c.args.i) (is_true _ c.requires.0.settings) in
     let h = shaped in (
       record {
         settings = c.requires.0.settings;
@@ -46,40 +43,37 @@ answer-requires c =
             (omega (arith, c.requires.0.rows_exact, place_inside c.args.s h c.args.t c.args.i p below));
       },
       c.requires.2,
-      ap (λ (x : Reduced). length x.roles) (reduced-by) ∙ reduced_roles c.args.s c.requires.0.settings (read c),
+      ap (λ (x : Reduced). length x.roles) (reduced-by) ∙ reduced_roles c.args.s c.requires.0.settings (flags_of c.args.s c.args.rows.now (c.args.due + c.args.i) c.args.t c.args.i),
       c.requires.4,
       subst⁻¹ (λ (x : Reduced). Own c.args.s x c.args.i) (reduced-by)
-          (own_reduced c.args.s c.args.i c.requires.2 c.requires.0.settings (read c)),
+          (own_reduced c.args.s c.args.i c.requires.2 c.requires.0.settings (flags_of c.args.s c.args.rows.now (c.args.due + c.args.i) c.args.t c.args.i)),
       subst⁻¹ (ParityOnly c.args.s) c.eliminate-reduced.ensures.left
-          (located_only c.args.s c.requires.0.settings (read c) _ _ _ c.requires.3 c.locate.ensures.flags c.locate.ensures.roles),
+          (located_only c.args.s c.requires.0.settings (flags_of c.args.s c.args.rows.now (c.args.due + c.args.i) c.args.t c.args.i) _ _ _ c.requires.3 c.locate.ensures.flags c.locate.ensures.roles),
     )
-
-pub shape_of-out : goal.shape_of-out
-shape_of-out c =
-    c.answer.auto.1.1.1.1.1.1.1.0
 
 pub returns : goal.returns
 returns c =
     let shaped : Shape c.args.s = shape c.args.s c.requires.0.settings in
-    let left_by : Unsolved c.args.s (read c) (eliminated c.args.s (known_in c.args.s (read c))).roles c.eliminate-reduced.new.flags = let h = shaped in
-    subst⁻¹ (Unsolved c.args.s (read c) (eliminated c.args.s (known_in c.args.s (read c))).roles) c.eliminate-reduced.ensures.left
-    (located_left c.args.s c.requires.0.settings (read c) _ _ _ c.requires.3 c.locate.ensures.flags c.locate.ensures.roles
+    let left_by : Unsolved c.args.s (flags_of c.args.s c.args.rows.now (c.args.due + c.args.i) c.args.t c.args.i) (eliminated c.args.s (known_in c.args.s (flags_of c.args.s c.args.rows.now (c.args.due + c.args.i) c.args.t c.args.i))).roles c.eliminate-reduced.new.flags = let h = shaped in
+    subst⁻¹ (Unsolved c.args.s (flags_of c.args.s c.args.rows.now (c.args.due + c.args.i) c.args.t c.args.i) (eliminated c.args.s (known_in c.args.s (flags_of c.args.s c.args.rows.now (c.args.due + c.args.i) c.args.t c.args.i))).roles) c.eliminate-reduced.ensures.left
+    (located_left c.args.s c.requires.0.settings (flags_of c.args.s c.args.rows.now (c.args.due + c.args.i) c.args.t c.args.i) _ _ _ c.requires.3 c.locate.ensures.flags c.locate.ensures.roles
     (λ q source. flag_cases c.args.s c.requires.0.settings c.args.rows.now c.args.due c.args.t c.args.i q (omega arith))) in
-    let reduced : both c.eliminate-reduced.result c.eliminate-reduced.new.roles ≡ eliminated c.args.s (known_in c.args.s (read c)) = c.eliminate-reduced.ensures.reduced
-    ∙ located_eliminated c.args.s c.requires.0.settings (read c) _ _ _ c.requires.3 c.locate.ensures.flags c.locate.ensures.roles in
-    let flags : List ℕ = read c in
+    let reduced : both c.eliminate-reduced.result c.eliminate-reduced.new.roles ≡ eliminated c.args.s (known_in c.args.s (flags_of c.args.s c.args.rows.now (c.args.due + c.args.i) c.args.t c.args.i)) = c.eliminate-reduced.ensures.reduced
+    ∙ located_eliminated c.args.s c.requires.0.settings (flags_of c.args.s c.args.rows.now (c.args.due + c.args.i) c.args.t c.args.i) _ _ _ c.requires.3 c.locate.ensures.flags c.locate.ensures.roles in
+    let flags : List ℕ = flags_of c.args.s c.args.rows.now (c.args.due + c.args.i) c.args.t c.args.i in
     let places : List ℕ = places_of c.args.s c.args.t c.args.i in
     let x : Reduced = eliminated c.args.s (known_in c.args.s flags) in
     let h = shaped in
-    told_and_kept c.args.s c.args.rows.now c.args.due c.args.t c.args.i x c.eliminate-reduced.new.flags places h.lanes_positive
+    let both_told = told_and_kept c.args.s c.args.rows.now c.args.due c.args.t c.args.i x c.eliminate-reduced.new.flags places h.lanes_positive
     (λ v.
-    left_said c.args.s c.requires.0.settings flags c.eliminate-reduced.new.flags (lane_byte c.args.s places c.args.rows.now v) (lane_below c.args.s places c.args.rows.now (λ q. (c.shared_slice_known-1.given q).fits) v)
+    left_said c.args.s c.requires.0.settings flags c.eliminate-reduced.new.flags (lane_byte c.args.s places c.args.rows.now v) (lane_below c.args.s places c.args.rows.now (λ q. (c.type_inv.rows q).fits) v)
     (left_by) c.args.i
-    ∙ lane_said c.args.s c.requires.0.settings c.args.rows.now c.args.due c.args.t c.args.i (λ q. (c.shared_slice_known-1.given q).fits) c.requires.2 v)
+    ∙ lane_said c.args.s c.requires.0.settings c.args.rows.now c.args.due c.args.t c.args.i (λ q. (c.type_inv.rows q).fits) c.requires.2 v)
     c.answer.result c.args.out.now _
     (c.answer.ensures
     ∙ ap (λ (x : Reduced). lanes_said c.args.s x c.eliminate-reduced.new.flags c.locate.new.places c.args.rows.now c.args.i c.args.out.now) (reduced)
-    ∙ ap (λ (l : List ℕ). lanes_said c.args.s x c.eliminate-reduced.new.flags l c.args.rows.now c.args.i c.args.out.now) c.locate.ensures.places)
+    ∙ ap (λ (l : List ℕ). lanes_said c.args.s x c.eliminate-reduced.new.flags l c.args.rows.now c.args.i c.args.out.now) c.locate.ensures.places) in
+    record { told = both_told.0; kept = both_told.1 }
 
 pub overflow_add-due : goal.overflow_add-due
 overflow_add-due c =
