@@ -7,8 +7,10 @@ ghost use Rattle.std.specs.Prelude.{◌≡◌, ◌≤◌, ◌<◌, length};
 
 use code::Settings;
 use ends::number_of;
+use output::Output;
 use protocol::{Receiver, Reply, Sender};
 use receiver::Reported;
+use std::io::{self, BufWriter, Write};
 
 // The card's settings with so many lanes; k is 2 and n is 4.
 fn settings(lanes: u8) -> Settings
@@ -37,32 +39,32 @@ fn short(delay: u8) -> Settings
 }
 
 // The bytes from a place on, in hex.
-fn print_bytes(bytes: &[u8], first: usize) {
+fn print_bytes<W: Write>(out: &mut Output<W>, bytes: &[u8], first: usize) {
     let mut q = first;
     while q < bytes.len() {
-        io::print_hex(1, bytes[q] as u64, 2);
+        out.put_hex(bytes[q]);
         q += 1;
     }
 }
 
-fn print_reply(r: Reply, message: &[u8]) {
+fn print_reply<W: Write>(out: &mut Output<W>, r: Reply, message: &[u8]) {
     match r {
         Reply::Refused(c) => {
-            io::write_all(1, b" ");
-            io::print_decimal(1, number_of(c) as u64);
+            out.put(b" ");
+            out.put_decimal(number_of(c) as u64);
         }
         Reply::NoneYet => {
-            io::write_all(1, b" none");
+            out.put(b" none");
         }
         Reply::Whole => {
-            io::write_all(1, b" whole ");
-            print_bytes(message, 0);
+            out.put(b" whole ");
+            print_bytes(out, message, 0);
         }
         Reply::Lost => {
-            io::write_all(1, b" lost");
+            out.put(b" lost");
         }
         Reply::Clash => {
-            io::write_all(1, b" clash");
+            out.put(b" clash");
         }
     }
 }
@@ -99,15 +101,28 @@ fn message_of(lanes: usize, slot: usize) -> [u8; 6] {
 }
 
 // The send of a slot; its frame is printed from a place on.
-fn send(x: Sender, first: usize, rows: &mut [u8], message: &[u8], frame: &mut [u8]) -> Sender {
+fn send<W: Write>(
+    out: &mut Output<W>,
+    x: Sender,
+    first: usize,
+    rows: &mut [u8],
+    message: &[u8],
+    frame: &mut [u8],
+) -> Sender {
     let sent = sender::send(x, rows, message, frame);
-    io::write_all(1, b" ");
-    print_bytes(frame, first);
+    out.put(b" ");
+    print_bytes(out, frame, first);
     sent.sender
 }
 
 // The sends of slots 0 to 5. There are 26 bytes for each frame.
-fn send_all(s: Settings, first: usize, rows: &mut [u8], frames: &mut [u8])
+fn send_all<W: Write>(
+    out: &mut Output<W>,
+    s: Settings,
+    first: usize,
+    rows: &mut [u8],
+    frames: &mut [u8],
+)
     requires { (s.lanes ≤ 3) × (length frames.old ≡ 156) }
 {
     let opened = sender::open(s, rows);
@@ -120,6 +135,7 @@ fn send_all(s: Settings, first: usize, rows: &mut [u8], frames: &mut [u8])
         let start = slot * 26;
         let end = start + 14 + 4 * lanes;
         x = send(
+            out,
             x,
             first,
             rows,
@@ -144,15 +160,23 @@ fn reported(
     receiver::heard(x, rows, frame, message)
 }
 
-fn report(x: Receiver, lost: bool, rows: &mut [u8], frame: &[u8], message: &mut [u8]) -> Receiver {
+fn report<W: Write>(
+    out: &mut Output<W>,
+    x: Receiver,
+    lost: bool,
+    rows: &mut [u8],
+    frame: &[u8],
+    message: &mut [u8],
+) -> Receiver {
     let after = reported(x, lost, rows, frame, message);
     let reply = after.reply;
-    print_reply(reply, message);
+    print_reply(out, reply, message);
     after.receiver
 }
 
 // The report of the frame of a slot, one of six, that another sender sent, if there is one.
-fn report_other(
+fn report_other<W: Write>(
+    out: &mut Output<W>,
     x: Receiver,
     slot: usize,
     rows: &mut [u8],
@@ -166,12 +190,13 @@ fn report_other(
     }
     let start = slot * 26;
     let end = start + 18;
-    report(x, false, rows, &others[start..end], message)
+    report(out, x, false, rows, &others[start..end], message)
 }
 
 // A receiver that is opened and hears slots 0 to 5, but for the first ones, which are lost; in each slot the frame of another sender, if
 // there is one, comes first.
-fn report_all(
+fn report_all<W: Write>(
+    out: &mut Output<W>,
     s: Settings,
     lost: usize,
     rows: &mut [u8],
@@ -188,20 +213,28 @@ fn report_all(
     while slot < 6 {
         let start = slot * 26;
         let end = start + 14 + 4 * lanes;
-        x = report_other(x, slot, rows, others, message);
-        x = report(x, slot < lost, rows, &frames[start..end], message);
+        x = report_other(out, x, slot, rows, others, message);
+        x = report(out, x, slot < lost, rows, &frames[start..end], message);
         slot += 1;
     }
 }
 
 // The buffers of a receiver, whose rows have this length, and its reports.
-fn play(s: Settings, size: usize, lost: usize, frames: &[u8], others: &[u8])
+fn play<W: Write>(
+    out: &mut Output<W>,
+    s: Settings,
+    size: usize,
+    lost: usize,
+    frames: &[u8],
+    others: &[u8],
+)
     requires { (s.lanes ≤ 3) × (size ≤ 65) × (length frames.now ≡ 156) }
 {
     let mut rows = [7u8; 65];
     let mut message = [7u8; 6];
     let message_end = 2 * s.lanes as usize;
     report_all(
+        out,
         s,
         lost,
         &mut rows[0..size],
@@ -213,81 +246,84 @@ fn play(s: Settings, size: usize, lost: usize, frames: &[u8], others: &[u8])
 
 // The figures with the card's settings, a receiver's rows having this length: 10 and 11 are of lost frames; in 12, lane 0 of the third
 // symbol of slot 2 becomes 2.
-fn figures(s: Settings, size: usize)
+fn figures<W: Write>(out: &mut Output<W>, s: Settings, size: usize)
     requires { (s.lanes ≤ 3) × (size ≤ 65) }
 {
     let lanes = s.lanes as usize;
     let mut frames = [7u8; 156];
     let mut remembered = [7u8; 18];
     let remembered_end = 6 * lanes;
-    io::write_all(1, b"9");
-    send_all(s, 14, &mut remembered[0..remembered_end], &mut frames);
-    io::write_all(1, b"\n10");
-    play(s, size, 2, &frames, b"");
-    io::write_all(1, b"\n11");
-    play(s, size, 3, &frames, b"");
-    io::write_all(1, b"\n12");
+    out.put(b"9");
+    send_all(out, s, 14, &mut remembered[0..remembered_end], &mut frames);
+    out.put(b"\n10");
+    play(out, s, size, 2, &frames, b"");
+    out.put(b"\n11");
+    play(out, s, size, 3, &frames, b"");
+    out.put(b"\n12");
     let place = 66 + 2 * lanes;
     frames[place] = 2;
-    play(s, size, 0, &frames, b"");
-    io::write_all(1, b"\n");
+    play(out, s, size, 0, &frames, b"");
+    out.put(b"\n");
 }
 
 // What begins a line of the short window.
-fn begin(word: &[u8], delay: u8) {
-    io::write_all(1, word);
-    io::write_all(1, b" ");
-    io::print_decimal(1, delay as u64);
+fn begin<W: Write>(out: &mut Output<W>, word: &[u8], delay: u8) {
+    out.put(word);
+    out.put(b" ");
+    out.put_decimal(delay as u64);
 }
 
 // The whole frames of a sender in the short window.
-fn sent(delay: u8, frames: &mut [u8])
+fn sent<W: Write>(out: &mut Output<W>, delay: u8, frames: &mut [u8])
     requires { length frames.old ≡ 156 }
 {
     let mut remembered = [7u8; 6];
-    begin(b"sent", delay);
-    send_all(short(delay), 0, &mut remembered, frames);
-    io::write_all(1, b"\n");
+    begin(out, b"sent", delay);
+    send_all(out, short(delay), 0, &mut remembered, frames);
+    out.put(b"\n");
 }
 
 // What a receiver there makes of these frames, the first two of which are lost, and of another sender's.
-fn heard(delay: u8, frames: &[u8], others: &[u8])
+fn heard<W: Write>(out: &mut Output<W>, delay: u8, frames: &[u8], others: &[u8])
     requires { length frames.now ≡ 156 }
 {
-    begin(b"heard", delay);
-    play(short(delay), 20, 2, frames, others);
-    io::write_all(1, b"\n");
+    begin(out, b"heard", delay);
+    play(out, short(delay), 20, 2, frames, others);
+    out.put(b"\n");
 }
 
 // Document 02's example: T = 9 beside T = 2.
-fn short_window() {
+fn short_window<W: Write>(out: &mut Output<W>) {
     let mut nine = [7u8; 156];
     let mut two = [7u8; 156];
-    sent(9, &mut nine);
-    sent(2, &mut two);
-    heard(9, &nine, &two);
-    heard(2, &two, &nine);
+    sent(out, 9, &mut nine);
+    sent(out, 2, &mut two);
+    heard(out, 9, &nine, &two);
+    heard(out, 2, &two, &nine);
 }
 
 // Two lanes that differ: the whole frames, and what is made of them with all heard, and without the first two.
-fn differing() {
+fn differing<W: Write>(out: &mut Output<W>) {
     let mut frames = [7u8; 156];
     let mut remembered = [7u8; 12];
-    io::write_all(1, b"sent");
-    send_all(settings(2), 0, &mut remembered, &mut frames);
-    io::write_all(1, b"\nheard all");
-    play(settings(2), 45, 0, &frames, b"");
-    io::write_all(1, b"\nheard without 0 and 1");
-    play(settings(2), 45, 2, &frames, b"");
-    io::write_all(1, b"\n");
+    out.put(b"sent");
+    send_all(out, settings(2), 0, &mut remembered, &mut frames);
+    out.put(b"\nheard all");
+    play(out, settings(2), 45, 0, &frames, b"");
+    out.put(b"\nheard without 0 and 1");
+    play(out, settings(2), 45, 2, &frames, b"");
+    out.put(b"\n");
 }
 
-fn main() {
-    figures(settings(1), 25);
-    io::write_all(1, b"in three lanes\n");
-    figures(settings(3), 65);
-    io::write_all(1, b"in a window of three slots\n");
-    short_window();
-    io::write_all(1, b"in two lanes that differ\n");
-    differing();
+fn main(rt: HostRuntime) -> io::Result<()> {
+    let mut output = Output::new(BufWriter::new(rt.alloc(), io::writer(&rt))?);
+    let out = &mut output;
+    figures(out, settings(1), 25);
+    out.put(b"in three lanes\n");
+    figures(out, settings(3), 65);
+    out.put(b"in a window of three slots\n");
+    short_window(out);
+    out.put(b"in two lanes that differ\n");
+    differing(out);
+    output.end()
 }

@@ -11,25 +11,27 @@ ghost use Rattle.protocol.specs.Lengths.{receiver_len};
 
 use buffers::{receiver_len, row_len};
 use code::Settings;
+use output::Output;
+use std::io::{self, BufWriter, Write};
 
-fn print_field(n: u64) {
-    io::print_decimal(1, n);
-    io::write_all(1, b" ");
+fn print_field<W: Write>(out: &mut Output<W>, n: u64) {
+    out.put_decimal(n);
+    out.put(b" ");
 }
 
 // What the grade says; the byte is that of a symbol which is whole.
-fn print_answer(grade: u8, byte: u8) {
+fn print_answer<W: Write>(out: &mut Output<W>, grade: u8, byte: u8) {
     match grade {
         2 => {
-            io::write_all(1, b"clash\n");
+            out.put(b"clash\n");
         }
         1 => {
-            io::write_all(1, b"lost\n");
+            out.put(b"lost\n");
         }
         _ => {
-            io::write_all(1, b"whole ");
-            io::print_decimal(1, byte as u64);
-            io::write_all(1, b"\n");
+            out.put(b"whole ");
+            out.put_decimal(byte as u64);
+            out.put(b"\n");
         }
     }
 }
@@ -69,7 +71,7 @@ fn told(
 }
 
 // One pattern of loss, with room for the rows of any settings.
-fn pattern(s: Settings, j: u8, x: &mut u64)
+fn pattern<W: Write>(out: &mut Output<W>, s: Settings, j: u8, x: &mut u64)
     requires { T (accepted s) × (s.lanes ≡ 1) }
 {
     let i = random::below(x, s.sources());
@@ -79,16 +81,16 @@ fn pattern(s: Settings, j: u8, x: &mut u64)
     let end = receiver_len(s);
     let mut symbol = [0u8; 1];
     let grade = told(s, &flags, &bytes, i, &mut rows[0..end], &mut symbol);
-    print_field(s.delay as u64);
-    print_field(s.burst as u64);
-    print_field(s.scattered as u64);
-    print_field(j as u64);
-    print_field(i as u64);
-    print_answer(grade, symbol[0]);
+    print_field(out, s.delay as u64);
+    print_field(out, s.burst as u64);
+    print_field(out, s.scattered as u64);
+    print_field(out, j as u64);
+    print_field(out, i as u64);
+    print_answer(out, grade, symbol[0]);
 }
 
 // Six patterns, for settings that are accepted.
-fn patterns(s: Settings, x: &mut u64)
+fn patterns<W: Write>(out: &mut Output<W>, s: Settings, x: &mut u64)
     requires { s.lanes ≡ 1 }
 {
     if !s.accepted() {
@@ -96,12 +98,12 @@ fn patterns(s: Settings, x: &mut u64)
     }
     let mut j: u8 = 0;
     while j < 6 {
-        pattern(s, j, x);
+        pattern(out, s, j, x);
         j += 1;
     }
 }
 
-fn each_scattered(delay: u8, burst: u8, x: &mut u64)
+fn each_scattered<W: Write>(out: &mut Output<W>, delay: u8, burst: u8, x: &mut u64)
     requires { (delay < 16) × (burst < 16) }
 {
     let mut scattered: u8 = 1;
@@ -113,26 +115,29 @@ fn each_scattered(delay: u8, burst: u8, x: &mut u64)
             scattered: scattered,
             lanes: 1,
         };
-        patterns(s, x);
+        patterns(out, s, x);
         scattered += 1;
     }
 }
 
-fn each_burst(delay: u8, x: &mut u64)
+fn each_burst<W: Write>(out: &mut Output<W>, delay: u8, x: &mut u64)
     requires { delay < 16 }
 {
     let mut burst: u8 = 1;
     while burst <= delay {
-        each_scattered(delay, burst, x);
+        each_scattered(out, delay, burst, x);
         burst += 1;
     }
 }
 
-fn main() {
+fn main(rt: HostRuntime) -> io::Result<()> {
+    let mut output = Output::new(BufWriter::new(rt.alloc(), io::writer(&rt))?);
+    let out = &mut output;
     let mut x: u64 = 20261115;
     let mut delay: u8 = 1;
     while delay <= 15 {
-        each_burst(delay, &mut x);
+        each_burst(out, delay, &mut x);
         delay += 1;
     }
+    output.end()
 }

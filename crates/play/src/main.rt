@@ -7,28 +7,39 @@ ghost use Rattle.std.specs.Prelude.{◌≡◌, ◌+◌, ◌*◌, ◌≤◌, leng
 
 use buffers::{message_len, receiver_len};
 use code::Settings;
-use libc::{STDERR_FILENO, STDIN_FILENO, STDOUT_FILENO};
 use stops::Start;
 
+// Tells on standard error why nothing more is played; where that fails too, there is nowhere left to tell it.
+pub(crate) fn tell(rt: &impl Eprint, why: &str) {
+    let _ = eprintln!(rt; "play: {why}");
+}
+
 // Writes to standard output, and answers whether it could.
-pub(crate) fn put(bytes: &[u8]) -> bool {
-    let done = io::write_all(STDOUT_FILENO, bytes);
+pub(crate) fn put(rt: &(impl Print + Eprint), bytes: &[u8]) -> bool {
+    let done = rt.write_all(bytes).is_ok();
     if !done {
-        io::write_all(STDERR_FILENO, b"play: standard output cannot be written\n");
+        tell(rt, "standard output cannot be written");
     }
     done
 }
 
 // A recording that passes: the buffer is filled and written out, to the last filling. It has room for the longest line, so each filling
 // leaves fewer steps.
-fn play_steps(s: Settings, recording: &[u8], rows: &mut [u8], message: &mut [u8], out: &mut [u8])
+fn play_steps(
+    rt: &(impl Print + Eprint),
+    s: Settings,
+    recording: &[u8],
+    rows: &mut [u8],
+    message: &mut [u8],
+    out: &mut [u8],
+)
     requires { 18 + 2 * length message.old ≤ length out.old }
 {
     let mut p = steps::begin(s, rows, message);
     loop {
         let filled = player::fill(p, recording, rows, message, out);
         let end = filled.len;
-        if !put(&out[0..end]) {
+        if !put(rt, &out[0..end]) {
             return;
         }
         if filled.over {
@@ -39,19 +50,26 @@ fn play_steps(s: Settings, recording: &[u8], rows: &mut [u8], message: &mut [u8]
 }
 
 // A whole recording, with buffers for any settings.
-fn play(recording: &[u8], rows: &mut [u8], message: &mut [u8], out: &mut [u8])
+fn play(
+    rt: &(impl Print + Eprint),
+    recording: &[u8],
+    rows: &mut [u8],
+    message: &mut [u8],
+    out: &mut [u8],
+)
     requires { (30750 ≤ length rows.old) × (960 ≤ length message.old) × (length out.old ≡ 65536) }
 {
     match stops::examine(recording) {
         Start::Empty => {}
         Start::Stop(c) => {
             let n = lines::write_stop(c, out);
-            put(&out[0..n]);
+            put(rt, &out[0..n]);
         }
         Start::Play(s) => {
             let rows_end = receiver_len(s);
             let message_end = message_len(s);
             play_steps(
+                rt,
                 s,
                 recording,
                 &mut rows[0..rows_end],
@@ -63,27 +81,40 @@ fn play(recording: &[u8], rows: &mut [u8], message: &mut [u8], out: &mut [u8])
 }
 
 // One byte more than a recording may have is read, to see that it is longer.
-fn read_and_play(input: &mut [u8], rows: &mut [u8], message: &mut [u8], out: &mut [u8])
+fn read_and_play(
+    rt: &(impl Input + Print + Eprint),
+    input: &mut [u8],
+    rows: &mut [u8],
+    message: &mut [u8],
+    out: &mut [u8],
+)
     requires { (30750 ≤ length rows.old) × (960 ≤ length message.old) × (length out.old ≡ 65536) }
 {
-    let read = input::read_all(STDIN_FILENO, input);
-    if read.failed {
-        io::write_all(STDERR_FILENO, b"play: standard input cannot be read\n");
+    let read = input::read_all(&mut rt.reader(), input);
+    if read.failed.is_some() {
+        tell(rt, "standard input cannot be read");
         return;
     }
     let len = read.len;
-    play(&input[0..len], rows, message, out);
+    play(rt, &input[0..len], rows, message, out);
 }
 
-fn main() {
+fn main(rt: HostRuntime) {
     let mut input = [0u8; 65537];
     let mut other = [0u8; 65537];
     let mut rows = [0u8; 30750];
     let mut message = [0u8; 960];
     let mut out = [0u8; 65536];
-    if os::arg_count() < 3 {
-        read_and_play(&mut input, &mut rows, &mut message, &mut out);
+    if !input::has_argument(&rt, 2) {
+        read_and_play(&rt, &mut input, &mut rows, &mut message, &mut out);
         return;
     }
-    pair::read_and_play(&mut input, &mut other, &mut rows, &mut message, &mut out);
+    pair::read_and_play(
+        &rt,
+        &mut input,
+        &mut other,
+        &mut rows,
+        &mut message,
+        &mut out,
+    );
 }

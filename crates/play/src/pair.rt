@@ -3,14 +3,15 @@ ghost use Rattle.std.specs.Prelude.{◌≡◌, ◌+◌, ◌*◌, ◌≤◌, leng
 ghost use Rattle.protocol.specs.Lengths.{receiver_len};
 ghost use Rattle.aerials.specs.Pair.{pair_cause};
 
-use crate::put;
+use crate::{put, tell};
 use buffers::{message_len, receiver_len};
 use code::Settings;
-use libc::STDERR_FILENO;
 use pairplay::PairStart;
+use std::rt::{Env, Files};
 
 // A pair that is accepted: each step's line is written out, to the last. Each leaves fewer slots.
 fn play_steps<'a>(
+    rt: &(impl Print + Eprint),
     s: Settings,
     first: &'a [u8],
     second: &'a [u8],
@@ -25,7 +26,7 @@ fn play_steps<'a>(
     loop {
         let stepped = pairs::step(p, first, second, rows, message, line);
         let end = stepped.len;
-        if !put(&line[0..end]) {
+        if !put(rt, &line[0..end]) {
             return;
         }
         if stepped.over {
@@ -36,19 +37,27 @@ fn play_steps<'a>(
 }
 
 // A whole pair, with buffers for any settings.
-fn play<'a>(first: &'a [u8], second: &'a [u8], rows: &mut [u8], message: &mut [u8], out: &mut [u8])
+fn play<'a>(
+    rt: &(impl Print + Eprint),
+    first: &'a [u8],
+    second: &'a [u8],
+    rows: &mut [u8],
+    message: &mut [u8],
+    out: &mut [u8],
+)
     requires { (30750 ≤ length rows.old) × (960 ≤ length message.old) × (length out.old ≡ 65536) }
 {
     match pairs::examine(first, second) {
         PairStart::Empty => {}
         PairStart::Stop(n) => {
             let end = lines::write_stop_number(n, out);
-            put(&out[0..end]);
+            put(rt, &out[0..end]);
         }
         PairStart::Play(s) => {
             let rows_end = receiver_len(s);
             let message_end = message_len(s);
             play_steps(
+                rt,
                 s,
                 first,
                 second,
@@ -61,7 +70,8 @@ fn play<'a>(first: &'a [u8], second: &'a [u8], rows: &mut [u8], message: &mut [u
 }
 
 // One byte more than a recording may have is read of each, to see that it is longer.
-pub(crate) fn read_and_play(
+pub(crate) fn read_and_play<R: Env + Files + Print + Eprint>(
+    rt: &R,
     first: &mut [u8],
     second: &mut [u8],
     rows: &mut [u8],
@@ -70,19 +80,19 @@ pub(crate) fn read_and_play(
 )
     requires { (30750 ≤ length rows.old) × (960 ≤ length message.old) × (length out.old ≡ 65536) }
 {
-    if 3 < os::arg_count() {
-        io::write_all(STDERR_FILENO, b"play: more than two recordings\n");
+    if input::has_argument(rt, 3) {
+        tell(rt, "more than two recordings");
         return;
     }
-    let one = input::read_named(1, first);
-    let two = input::read_named(2, second);
-    if one.failed {
+    let one = input::read_named(rt, 1, first);
+    let two = input::read_named(rt, 2, second);
+    if one.failed.is_some() {
         return;
     }
-    if two.failed {
+    if two.failed.is_some() {
         return;
     }
     let a = one.len;
     let b = two.len;
-    play(&first[0..a], &second[0..b], rows, message, out);
+    play(rt, &first[0..a], &second[0..b], rows, message, out);
 }

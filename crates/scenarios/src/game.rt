@@ -5,7 +5,9 @@ use crate::events::Event;
 use crate::{events, faults, random, rows};
 use code::Settings;
 use cuts::Call;
+use output::Output;
 use protocol::{Receiver, Sender};
+use std::io::Write;
 
 // The buffers, and how many bytes at the end of each are zeros behind what it is for; how many losses of a burst are left over, whether
 // rows are drawn behind the receiver's back, the settings and both ends.
@@ -35,15 +37,15 @@ fn send_faults(x: &mut u64) -> usize {
 }
 
 // The game after a send.
-fn sent(game: Game, call: Call, message: &[u8; 1040]) -> Game {
+fn sent<W: Write>(out: &mut Output<W>, game: Game, call: Call, message: &[u8; 1040]) -> Game {
     let mut rows = game.sent;
     let mut frame = game.frame;
-    let sender = trace::send(call, &mut rows, message, &mut frame);
-    let mut out = game;
-    out.sender = sender;
-    out.sent = rows;
-    out.frame = frame;
-    out
+    let sender = trace::send(out, call, &mut rows, message, &mut frame);
+    let mut after = game;
+    after.sender = sender;
+    after.sent = rows;
+    after.frame = frame;
+    after
 }
 
 // The send of the slot due, with nothing wrong.
@@ -71,58 +73,70 @@ fn sends_before(start: u32) -> u32
 }
 
 // The messages of these slots, drawn and sent.
-pub(crate) fn sent_before(game: Game, start: u32, x: &mut u64) -> Game {
+pub(crate) fn sent_before<W: Write>(
+    out: &mut Output<W>,
+    game: Game,
+    start: u32,
+    x: &mut u64,
+) -> Game {
     let count = sends_before(start);
     let first = start - count;
-    let mut out = game;
-    out.sender.due = first;
+    let mut after = game;
+    after.sender.due = first;
     let mut i: u32 = 0;
     while i < count {
-        let message = random::bytes(out.buffer_cut, x);
-        out = sent(out, exact_send(out), &message);
+        let message = random::bytes(after.buffer_cut, x);
+        after = sent(out, after, exact_send(after), &message);
         i += 1;
     }
-    out
+    after
 }
 
 // A message is drawn and sent, at times after a send with faults.
-fn sending(game: Game, x: &mut u64) -> Game {
+fn sending<W: Write>(out: &mut Output<W>, game: Game, x: &mut u64) -> Game {
     let exact = exact_send(game);
     let message = random::bytes(game.buffer_cut, x);
     let faults = send_faults(x);
-    let mut out = game;
+    let mut after = game;
     if 0 < faults {
-        out = sent(game, faults::wrong(exact, 3, faults, x), &message);
+        after = sent(out, game, faults::wrong(exact, 3, faults, x), &message);
     }
-    sent(out, exact, &message)
+    sent(out, after, exact, &message)
 }
 
 // The game after a report of a loss.
-fn lost(game: Game, call: Call) -> Game {
+fn lost<W: Write>(out: &mut Output<W>, game: Game, call: Call) -> Game {
     let mut rows = game.received;
     let mut buffer = game.buffer;
-    let receiver = trace::loss(call, &mut rows, &mut buffer);
-    let mut out = game;
-    out.receiver = receiver;
-    out.received = rows;
-    out.buffer = buffer;
-    out
+    let receiver = trace::loss(out, call, &mut rows, &mut buffer);
+    let mut after = game;
+    after.receiver = receiver;
+    after.received = rows;
+    after.buffer = buffer;
+    after
 }
 
 // The game after a report of a frame.
-fn heard(game: Game, call: Call, frame: &[u8; 1040]) -> Game {
+fn heard<W: Write>(out: &mut Output<W>, game: Game, call: Call, frame: &[u8; 1040]) -> Game {
     let mut rows = game.received;
     let mut buffer = game.buffer;
-    let receiver = trace::heard(call, &mut rows, frame, &mut buffer);
-    let mut out = game;
-    out.receiver = receiver;
-    out.received = rows;
-    out.buffer = buffer;
-    out
+    let receiver = trace::heard(out, call, &mut rows, frame, &mut buffer);
+    let mut after = game;
+    after.receiver = receiver;
+    after.received = rows;
+    after.buffer = buffer;
+    after
 }
 
 // The report of a lost frame, or of a changed copy of a heard one, from this receiver on.
-fn reported(game: Game, before: Receiver, lost_now: bool, faults: usize, x: &mut u64) -> Game {
+fn reported<W: Write>(
+    out: &mut Output<W>,
+    game: Game,
+    before: Receiver,
+    lost_now: bool,
+    faults: usize,
+    x: &mut u64,
+) -> Game {
     let settings = before.settings;
     let mut exact = Call {
         settings: settings,
@@ -133,32 +147,32 @@ fn reported(game: Game, before: Receiver, lost_now: bool, faults: usize, x: &mut
         second: game.buffer_cut,
     };
     if lost_now {
-        return lost(game, faults::wrong(exact, 2, faults, x));
+        return lost(out, game, faults::wrong(exact, 2, faults, x));
     }
     exact.first = game.frame_cut;
     let call = faults::wrong(exact, 3, faults, x);
     let frame = game.frame;
     let copy = faults::changed(frame, settings, faults, x);
-    heard(game, call, &copy)
+    heard(out, game, call, &copy)
 }
 
 // A report with faults, if there are any, and the true one.
-fn receiving(game: Game, event: Event, x: &mut u64) -> Game {
+fn receiving<W: Write>(out: &mut Output<W>, game: Game, event: Event, x: &mut u64) -> Game {
     let before = game.receiver;
-    let mut out = game;
+    let mut after = game;
     if 0 < event.faults {
-        out = reported(game, before, event.lost, event.faults, x);
+        after = reported(out, game, before, event.lost, event.faults, x);
     }
-    out = reported(out, before, event.lost, event.last, x);
-    out.left = event.left;
-    out
+    after = reported(out, after, before, event.lost, event.last, x);
+    after.left = event.left;
+    after
 }
 
 // A send and what happens to its frame.
-pub(crate) fn round(game: Game, x: &mut u64) -> Game {
+pub(crate) fn round<W: Write>(out: &mut Output<W>, game: Game, x: &mut u64) -> Game {
     let s = game.settings;
-    let sent = sending(game, x);
+    let sent = sending(out, game, x);
     let touched = rows::touched(sent, x);
     let event = events::draw(game.left, s.burst, x);
-    receiving(touched, event, x)
+    receiving(out, touched, event, x)
 }

@@ -11,6 +11,8 @@ mod title;
 
 use code::Settings;
 use game::Game;
+use output::Output;
+use std::io::{self, BufWriter, Write};
 
 // Both ends opened fresh at slot 0; rows that are lent with a history of their own; or a receiver that is opened late.
 #[derive(Clone, Copy)]
@@ -21,7 +23,7 @@ pub(crate) enum Kind {
 }
 
 // The buffers drawn, and both ends opened in them, the receiver at this slot.
-fn opened(s: Settings, slot: u32, lent: bool, x: &mut u64) -> Game {
+fn opened<W: Write>(out: &mut Output<W>, s: Settings, slot: u32, lent: bool, x: &mut u64) -> Game {
     let sent_cut = cuts::end(32768, buffers::sender_len(s));
     let received_cut = cuts::end(32768, buffers::receiver_len(s));
     let frame_cut = cuts::end(1040, buffers::frame_len(s));
@@ -30,8 +32,8 @@ fn opened(s: Settings, slot: u32, lent: bool, x: &mut u64) -> Game {
     let mut received = random::rows(received_cut, x);
     let frame = random::bytes(frame_cut, x);
     let buffer = random::bytes(buffer_cut, x);
-    let sender = openings::of_sender(s, sent_cut, &mut sent, x);
-    let receiver = openings::of_receiver(s, slot, received_cut, &mut received, x);
+    let sender = openings::of_sender(out, s, sent_cut, &mut sent, x);
+    let receiver = openings::of_receiver(out, s, slot, received_cut, &mut received, x);
     Game {
         sent: sent,
         received: received,
@@ -50,49 +52,56 @@ fn opened(s: Settings, slot: u32, lent: bool, x: &mut u64) -> Game {
 }
 
 // So many slots.
-fn rounds(begun: Game, count: usize, x: &mut u64) {
+fn rounds<W: Write>(out: &mut Output<W>, begun: Game, count: usize, x: &mut u64) {
     let mut game = begun;
     let mut i: usize = 0;
     while i < count {
-        game = game::round(game, x);
+        game = game::round(out, game, x);
         i += 1;
     }
 }
 
 // A scenario: its title, and all its calls.
-fn scenario(s: Settings, k: Kind, start: u32, x: &mut u64) {
-    title::scenario(s, k, start);
+fn scenario<W: Write>(out: &mut Output<W>, s: Settings, k: Kind, start: u32, x: &mut u64) {
+    title::scenario(out, s, k, start);
     match k {
         Kind::Fresh => {
-            rounds(opened(s, 0, false, x), 40, x);
+            let begun = opened(out, s, 0, false, x);
+            rounds(out, begun, 40, x);
         }
         Kind::Lent => {
-            rounds(rows::drawn(opened(s, 0, true, x), start, x), 40, x);
+            let begun = opened(out, s, 0, true, x);
+            rounds(out, rows::drawn(begun, start, x), 40, x);
         }
         Kind::Late => {
-            rounds(
-                game::sent_before(opened(s, start, false, x), start, x),
-                20,
-                x,
-            );
+            let begun = opened(out, s, start, false, x);
+            let sent = game::sent_before(out, begun, start, x);
+            rounds(out, sent, 20, x);
         }
     }
 }
 
 // The six scenarios of some settings with a receiver that is opened late: at slot 1, at about as many slots as it has rows, far on, and
 // at the last slot.
-fn late(s: Settings, x: &mut u64) {
+fn late<W: Write>(out: &mut Output<W>, s: Settings, x: &mut u64) {
     let rows = buffers::row_count(s) as u32;
-    scenario(s, Kind::Late, 1, x);
-    scenario(s, Kind::Late, std::num::wrapping_sub_u32(rows, 1), x);
-    scenario(s, Kind::Late, rows, x);
-    scenario(s, Kind::Late, std::num::wrapping_add_u32(rows, 1), x);
-    scenario(s, Kind::Late, 2000000000, x);
-    scenario(s, Kind::Late, 3999999999, x);
+    scenario(out, s, Kind::Late, 1, x);
+    scenario(out, s, Kind::Late, std::num::wrapping_sub_u32(rows, 1), x);
+    scenario(out, s, Kind::Late, rows, x);
+    scenario(out, s, Kind::Late, std::num::wrapping_add_u32(rows, 1), x);
+    scenario(out, s, Kind::Late, 2000000000, x);
+    scenario(out, s, Kind::Late, 3999999999, x);
 }
 
 // The ten scenarios of a window and a code.
-fn ten(window: u8, delay: u8, burst: u8, scattered: u8, x: &mut u64) {
+fn ten<W: Write>(
+    out: &mut Output<W>,
+    window: u8,
+    delay: u8,
+    burst: u8,
+    scattered: u8,
+    x: &mut u64,
+) {
     let s = Settings {
         window: window,
         delay: delay,
@@ -101,27 +110,30 @@ fn ten(window: u8, delay: u8, burst: u8, scattered: u8, x: &mut u64) {
         lanes: 1,
     };
     let mut many = s;
-    scenario(s, Kind::Fresh, 0, x);
+    scenario(out, s, Kind::Fresh, 0, x);
     many.lanes = 64;
-    scenario(many, Kind::Fresh, 0, x);
-    scenario(s, Kind::Lent, 0, x);
+    scenario(out, many, Kind::Fresh, 0, x);
+    scenario(out, s, Kind::Lent, 0, x);
     many.lanes = 3;
-    scenario(many, Kind::Lent, 3999999970, x);
+    scenario(out, many, Kind::Lent, 3999999970, x);
     many.lanes = 2;
-    late(many, x);
+    late(out, many, x);
 }
 
-fn main() {
+fn main(rt: HostRuntime) -> io::Result<()> {
+    let mut output = Output::new(BufWriter::new(rt.alloc(), io::writer(&rt))?);
+    let out = &mut output;
     let mut x: u64 = 20261116;
-    ten(2, 1, 1, 1, &mut x);
-    ten(4, 3, 2, 2, &mut x);
-    ten(4, 3, 3, 2, &mut x);
-    ten(3, 2, 2, 1, &mut x);
-    ten(9, 8, 8, 1, &mut x);
-    ten(16, 15, 15, 15, &mut x);
-    ten(16, 15, 1, 1, &mut x);
+    ten(out, 2, 1, 1, 1, &mut x);
+    ten(out, 4, 3, 2, 2, &mut x);
+    ten(out, 4, 3, 3, 2, &mut x);
+    ten(out, 3, 2, 2, 1, &mut x);
+    ten(out, 9, 8, 8, 1, &mut x);
+    ten(out, 16, 15, 15, 15, &mut x);
+    ten(out, 16, 15, 1, 1, &mut x);
     // windows that are no longer than the delay that was set
-    ten(3, 9, 2, 1, &mut x);
-    ten(4, 4, 2, 2, &mut x);
-    ten(12, 255, 8, 4, &mut x);
+    ten(out, 3, 9, 2, 1, &mut x);
+    ten(out, 4, 4, 2, 2, &mut x);
+    ten(out, 12, 255, 8, 4, &mut x);
+    output.end()
 }

@@ -1,7 +1,9 @@
 // The openings of both ends: many with something wrong, and last the true one.
 use crate::{faults, random};
 use code::Settings;
+use output::Output;
 use protocol::{Receiver, Sender};
+use std::io::Write;
 
 // The settings of an opening, a receiver's slot, and what is not lent of its rows.
 #[derive(Clone, Copy)]
@@ -62,7 +64,13 @@ fn numbered(exact: Opening, r: usize, x: &mut u64) -> Opening {
 }
 
 // The openings of the sender.
-pub(crate) fn of_sender(s: Settings, cut: usize, rows: &mut [u8], x: &mut u64) -> Sender {
+pub(crate) fn of_sender<W: Write>(
+    out: &mut Output<W>,
+    s: Settings,
+    cut: usize,
+    rows: &mut [u8],
+    x: &mut u64,
+) -> Sender {
     let exact = Opening {
         settings: s,
         slot: 0,
@@ -72,14 +80,15 @@ pub(crate) fn of_sender(s: Settings, cut: usize, rows: &mut [u8], x: &mut u64) -
     let mut r: usize = 0;
     while r < 12 {
         let next = wrong(exact, r, x);
-        sender = trace::open_sender(next.settings, next.cut, rows);
+        sender = trace::open_sender(out, next.settings, next.cut, rows);
         r += 1;
     }
     sender
 }
 
 // The openings of the receiver.
-pub(crate) fn of_receiver(
+pub(crate) fn of_receiver<W: Write>(
+    out: &mut Output<W>,
     s: Settings,
     slot: u32,
     cut: usize,
@@ -95,7 +104,7 @@ pub(crate) fn of_receiver(
     let mut r: usize = 0;
     while r < 15 {
         let next = numbered(exact, r, x);
-        receiver = trace::open_receiver(next.settings, next.slot, next.cut, rows);
+        receiver = trace::open_receiver(out, next.settings, next.slot, next.cut, rows);
         r += 1;
     }
     receiver

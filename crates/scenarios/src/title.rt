@@ -1,37 +1,39 @@
 // The first line of each scenario.
 use crate::Kind;
 use code::Settings;
+use output::Output;
+use std::io::Write;
 
 // A number, with a space before it.
-fn number(n: u64) {
-    io::write_all(1, b" ");
-    io::print_decimal(1, n);
+fn number<W: Write>(out: &mut Output<W>, n: u64) {
+    out.put(b" ");
+    out.put_decimal(n);
 }
 
 // The kind of a scenario.
-fn kind(k: Kind) {
+fn kind<W: Write>(out: &mut Output<W>, k: Kind) {
     match k {
         Kind::Fresh => {
-            io::write_all(1, b" fresh");
+            out.put(b" fresh");
         }
         Kind::Lent => {
-            io::write_all(1, b" lent");
+            out.put(b" lent");
         }
         Kind::Late => {
-            io::write_all(1, b" late");
+            out.put(b" late");
         }
     }
 }
 
 // A scenario's settings, its kind and the slot that it starts at.
-pub(crate) fn scenario(s: Settings, k: Kind, start: u32) {
-    io::write_all(1, b"scenario");
-    number(s.window as u64);
-    number(s.delay as u64);
-    number(s.burst as u64);
-    number(s.scattered as u64);
-    number(s.lanes as u64);
-    kind(k);
-    number(start as u64);
-    io::write_all(1, b"\n");
+pub(crate) fn scenario<W: Write>(out: &mut Output<W>, s: Settings, k: Kind, start: u32) {
+    out.put(b"scenario");
+    number(out, s.window as u64);
+    number(out, s.delay as u64);
+    number(out, s.burst as u64);
+    number(out, s.scattered as u64);
+    number(out, s.lanes as u64);
+    kind(out, k);
+    number(out, start as u64);
+    out.put(b"\n");
 }

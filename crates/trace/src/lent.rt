@@ -7,30 +7,49 @@ use crate::print;
 use code::Settings;
 use cuts::{Call, end};
 use ends::{receiver_at, sender_at};
+use output::Output;
 use protocol::{Receiver, Sender};
+use std::io::Write;
 
 // An opening of the sender.
-pub fn open_sender(s: Settings, cut: usize, rows: &mut [u8]) -> Sender
+pub fn open_sender<W: Write>(
+    out: &mut Output<W>,
+    s: Settings,
+    cut: usize,
+    rows: &mut [u8],
+) -> Sender
     ensures { record { sender = result; rows = rows.new } ≡ open_sender_cut s cut rows.old }
 {
     let rows_end = end(rows.len(), cut);
     let opened = sender::open(s, &mut rows[0..rows_end]);
-    print::opened_sender(opened, rows);
+    print::opened_sender(out, opened, rows);
     opened.sender
 }
 
 // An opening of the receiver at this slot.
-pub fn open_receiver(s: Settings, slot: u32, cut: usize, rows: &mut [u8]) -> Receiver
+pub fn open_receiver<W: Write>(
+    out: &mut Output<W>,
+    s: Settings,
+    slot: u32,
+    cut: usize,
+    rows: &mut [u8],
+) -> Receiver
     ensures { record { receiver = result; rows = rows.new } ≡ open_receiver_cut s slot cut rows.old }
 {
     let rows_end = end(rows.len(), cut);
     let opened = receiver::open(s, slot, &mut rows[0..rows_end]);
-    print::opened_receiver(opened, rows);
+    print::opened_receiver(out, opened, rows);
     opened.receiver
 }
 
 // A send.
-pub fn send(call: Call, rows: &mut [u8], message: &[u8], frame: &mut [u8]) -> Sender
+pub fn send<W: Write>(
+    out: &mut Output<W>,
+    call: Call,
+    rows: &mut [u8],
+    message: &[u8],
+    frame: &mut [u8],
+) -> Sender
     ensures { record { sender = result; rows = rows.new; frame = frame.new }
         ≡ send_cut call rows.old message.now frame.old }
 {
@@ -44,12 +63,18 @@ pub fn send(call: Call, rows: &mut [u8], message: &[u8], frame: &mut [u8]) -> Se
         &message[0..message_end],
         &mut frame[0..frame_end],
     );
-    print::sent(sent, frame, rows);
+    print::sent(out, sent, frame, rows);
     sent.sender
 }
 
 // The report of a frame.
-pub fn heard(call: Call, rows: &mut [u8], frame: &[u8], buffer: &mut [u8]) -> Receiver
+pub fn heard<W: Write>(
+    out: &mut Output<W>,
+    call: Call,
+    rows: &mut [u8],
+    frame: &[u8],
+    buffer: &mut [u8],
+) -> Receiver
     ensures { record { receiver = result; rows = rows.new; buffer = buffer.new }
         ≡ heard_cut call rows.old frame.now buffer.old }
 {
@@ -63,12 +88,17 @@ pub fn heard(call: Call, rows: &mut [u8], frame: &[u8], buffer: &mut [u8]) -> Re
         &frame[0..frame_end],
         &mut buffer[0..buffer_end],
     );
-    print::reported(b"frame", reported, buffer, rows);
+    print::reported(out, b"frame", reported, buffer, rows);
     reported.receiver
 }
 
 // The report of a loss.
-pub fn loss(call: Call, rows: &mut [u8], buffer: &mut [u8]) -> Receiver
+pub fn loss<W: Write>(
+    out: &mut Output<W>,
+    call: Call,
+    rows: &mut [u8],
+    buffer: &mut [u8],
+) -> Receiver
     ensures { record { receiver = result; rows = rows.new; buffer = buffer.new }
         ≡ loss_cut call rows.old buffer.old }
 {
@@ -76,6 +106,6 @@ pub fn loss(call: Call, rows: &mut [u8], buffer: &mut [u8]) -> Receiver
     let rows_end = end(rows.len(), call.rows);
     let buffer_end = end(buffer.len(), call.first);
     let reported = receiver::loss(x, &mut rows[0..rows_end], &mut buffer[0..buffer_end]);
-    print::reported(b"loss", reported, buffer, rows);
+    print::reported(out, b"loss", reported, buffer, rows);
     reported.receiver
 }

@@ -3,65 +3,67 @@ ghost use Rattle.std.specs.Prelude.{◌<◌};
 
 use code::Settings;
 use ends::number_of;
+use output::Output;
 use protocol::{Answer, Receiver, Reply, Sender};
+use std::io::Write;
 
 // A number.
-fn number(n: u64) {
-    io::write_all(1, b" ");
-    io::print_decimal(1, n);
+fn number<W: Write>(out: &mut Output<W>, n: u64) {
+    out.put(b" ");
+    out.put_decimal(n);
 }
 
 // The five settings.
-fn settings(s: Settings) {
-    number(s.window as u64);
-    number(s.delay as u64);
-    number(s.burst as u64);
-    number(s.scattered as u64);
-    number(s.lanes as u64);
+fn settings<W: Write>(out: &mut Output<W>, s: Settings) {
+    number(out, s.window as u64);
+    number(out, s.delay as u64);
+    number(out, s.burst as u64);
+    number(out, s.scattered as u64);
+    number(out, s.lanes as u64);
 }
 
 // A sender's state: the settings and the slot due.
-fn sender_state(x: Sender) {
-    settings(x.settings);
-    number(x.due as u64);
+fn sender_state<W: Write>(out: &mut Output<W>, x: Sender) {
+    settings(out, x.settings);
+    number(out, x.due as u64);
 }
 
 // A receiver's: the settings, the opening slot and the slot due.
-fn receiver_state(x: Receiver) {
-    settings(x.settings);
-    number(x.opening as u64);
-    number(x.due as u64);
+fn receiver_state<W: Write>(out: &mut Output<W>, x: Receiver) {
+    settings(out, x.settings);
+    number(out, x.opening as u64);
+    number(out, x.due as u64);
 }
 
 // The outcome of an opening or a send.
-fn answer(a: Answer) {
+fn answer<W: Write>(out: &mut Output<W>, a: Answer) {
     match a {
         Answer::Accepted => {
-            io::write_all(1, b" ok");
+            out.put(b" ok");
         }
         Answer::Refused(c) => {
-            number(number_of(c) as u64);
+            number(out, number_of(c) as u64);
         }
     }
 }
 
 // The outcome of a report.
-fn reply(a: Reply) {
+fn reply<W: Write>(out: &mut Output<W>, a: Reply) {
     match a {
         Reply::Refused(c) => {
-            number(number_of(c) as u64);
+            number(out, number_of(c) as u64);
         }
         Reply::NoneYet => {
-            io::write_all(1, b" none");
+            out.put(b" none");
         }
         Reply::Whole => {
-            io::write_all(1, b" whole");
+            out.put(b" whole");
         }
         Reply::Lost => {
-            io::write_all(1, b" lost");
+            out.put(b" lost");
         }
         Reply::Clash => {
-            io::write_all(1, b" clash");
+            out.put(b" clash");
         }
     }
 }
@@ -75,7 +77,7 @@ fn wide(b: u8) -> u64
 
 // The sum of bytes, in which a byte counts once for itself and once for each byte before it: from the end on, the sum so far is added for
 // each byte.
-fn sum(bytes: &[u8]) {
+fn sum<W: Write>(out: &mut Output<W>, bytes: &[u8]) {
     let mut tail: u64 = 0;
     let mut total: u64 = 0;
     let mut q = bytes.len();
@@ -84,56 +86,66 @@ fn sum(bytes: &[u8]) {
         tail = (tail + wide(bytes[q])) % 65521;
         total = (total + tail) % 65521;
     }
-    number(total);
+    number(out, total);
 }
 
 // The end of a line.
-fn line_end() {
-    io::write_all(1, b"\n");
+fn line_end<W: Write>(out: &mut Output<W>) {
+    out.put(b"\n");
 }
 
 // The line of an opening of the sender.
-pub(crate) fn opened_sender(opened: sender::Opened, rows: &[u8]) {
+pub(crate) fn opened_sender<W: Write>(out: &mut Output<W>, opened: sender::Opened, rows: &[u8]) {
     let a = opened.answer;
     let x = opened.sender;
-    io::write_all(1, b"open-sender");
-    answer(a);
-    sender_state(x);
-    sum(rows);
-    line_end();
+    out.put(b"open-sender");
+    answer(out, a);
+    sender_state(out, x);
+    sum(out, rows);
+    line_end(out);
 }
 
 // The line of an opening of the receiver.
-pub(crate) fn opened_receiver(opened: receiver::Opened, rows: &[u8]) {
+pub(crate) fn opened_receiver<W: Write>(
+    out: &mut Output<W>,
+    opened: receiver::Opened,
+    rows: &[u8],
+) {
     let a = opened.answer;
     let x = opened.receiver;
-    io::write_all(1, b"open-receiver");
-    answer(a);
-    receiver_state(x);
-    sum(rows);
-    line_end();
+    out.put(b"open-receiver");
+    answer(out, a);
+    receiver_state(out, x);
+    sum(out, rows);
+    line_end(out);
 }
 
 // The line of a send.
-pub(crate) fn sent(sent: sender::Sent, frame: &[u8], rows: &[u8]) {
+pub(crate) fn sent<W: Write>(out: &mut Output<W>, sent: sender::Sent, frame: &[u8], rows: &[u8]) {
     let a = sent.answer;
     let x = sent.sender;
-    io::write_all(1, b"send");
-    answer(a);
-    sender_state(x);
-    sum(frame);
-    sum(rows);
-    line_end();
+    out.put(b"send");
+    answer(out, a);
+    sender_state(out, x);
+    sum(out, frame);
+    sum(out, rows);
+    line_end(out);
 }
 
 // The line of a report, from its first word on.
-pub(crate) fn reported(word: &[u8], r: receiver::Reported, buffer: &[u8], rows: &[u8]) {
+pub(crate) fn reported<W: Write>(
+    out: &mut Output<W>,
+    word: &[u8],
+    r: receiver::Reported,
+    buffer: &[u8],
+    rows: &[u8],
+) {
     let a = r.reply;
     let x = r.receiver;
-    io::write_all(1, word);
-    reply(a);
-    receiver_state(x);
-    sum(buffer);
-    sum(rows);
-    line_end();
+    out.put(word);
+    reply(out, a);
+    receiver_state(out, x);
+    sum(out, buffer);
+    sum(out, rows);
+    line_end(out);
 }
