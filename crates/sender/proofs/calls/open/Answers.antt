@@ -1,5 +1,4 @@
 -- A cause that is found refuses the opening, and else the rows are zeroed.
-use borrow.Author.Rules.{rules}
 use mathlib.Core.Path.{◌≡◌, sym, ap, ap₂, ◌∙◌}
 use Prim.Native.Nat.{ℕ}
 use lib.ListN.{replicate}
@@ -13,13 +12,13 @@ use Rattle.sender.proofs.calls.open.Goals as goal
 pub returns-in-Refused : goal.returns-in-Refused
 returns-in-Refused c =
     let looked : c.open_cause-found.result ≡ open_cause c.args.s (sender_len c.args.s) c.args.rows.now = c.open_cause-found.ensures ∙ ap (λ (n : ℕ). open_cause c.args.s n c.args.rows.now) c.sender_len.ensures in
-    unopened c.args.s c.args.rows.now _ (sym (looked) ∙ c.in-Refused.is)
+    unopened c.args.s c.args.rows.now _ (sym looked ∙ c.in-Refused.is)
 
 pub returns : goal.returns
 returns c =
     let looked : c.open_cause-found.result ≡ open_cause c.args.s (sender_len c.args.s) c.args.rows.now = c.open_cause-found.ensures ∙ ap (λ (n : ℕ). open_cause c.args.s n c.args.rows.now) c.sender_len.ensures in
-    let uncaused : open_cause c.args.s (sender_len c.args.s) c.args.rows.now ≡ answer.Accepted = sym (looked) ∙ c.in_default.is in
+    let uncaused : open_cause c.args.s (sender_len c.args.s) c.args.rows.now ≡ answer.Accepted = sym looked ∙ c.in_default.is in
     ap₂ opening
-    (c.clear.ensures ∙ ap (λ (n : ℕ). replicate n 0) (open_exact c.args.s (sender_len c.args.s) c.args.rows.now (uncaused)))
+    (c.clear.ensures ∙ ap (λ (n : ℕ). replicate n 0) (open_exact c.args.s (sender_len c.args.s) c.args.rows.now uncaused))
     c.opened_sender.ensures
-    ∙ opened c.args.s c.args.rows.now (uncaused)
+    ∙ opened c.args.s c.args.rows.now uncaused

@@ -1,12 +1,10 @@
 -- A cause that is found refuses the send; else the frame is written from the rows as they are, and then the message into them.
-use borrow.Author.Rules.{rules}
-use mathlib.Core.Path.{◌≡◌, sym, ap, ◌∙◌}
+use mathlib.Core.Path.{sym, ap, ◌∙◌}
 use mathlib.Core.List.{List}
 use Prim.Native.Nat.{ℕ}
 use Rattle.protocol.specs.declared.Sender.{Sender}
 use Rattle.protocol.specs.declared.Answer.TheVariants as answer
 use Rattle.protocol.specs.Calls.{Sent}
-use Rattle.protocol.specs.Causes.{send_cause}
 use Rattle.protocol.proofs.Sending.{Sendable, clear_send}
 use Rattle.sender.proofs.Outcomes.{unsent, sent}
 use Rattle.sender.proofs.calls.send.Goals as goal
@@ -21,26 +19,23 @@ returns-in-Refused c =
 
 pub write_frame-requires : goal.write_frame-requires
 write_frame-requires c =
-    let uncaused : send_cause c.args.x c.args.rows.now c.args.message.now c.args.frame.now ≡ answer.Accepted = sym c.send_cause-found.ensures ∙ c.in_default.is in
-    let sendable : Sendable c.args.x c.args.rows.now c.args.message.now c.args.frame.now = clear_send c.args.x c.args.rows.now c.args.message.now c.args.frame.now (uncaused) in
-    let can = sendable in
+    let a = c.args in
+    let can : Sendable a.x a.rows.now a.message.now a.frame.now = clear_send _ _ _ _ (sym c.send_cause-found.ensures ∙ c.in_default.is) in
     (can.settled, can.rows_exact, can.message_exact, can.frame_exact)
 
 pub remember-requires : goal.remember-requires
 remember-requires c =
-    let uncaused : send_cause c.args.x c.args.rows.now c.args.message.now c.args.frame.now ≡ answer.Accepted = sym c.send_cause-found.ensures ∙ c.in_default.is in
-    let sendable : Sendable c.args.x c.args.rows.now c.args.message.now c.args.frame.now = clear_send c.args.x c.args.rows.now c.args.message.now c.args.frame.now (uncaused) in
-    let can = sendable in
+    let a = c.args in
+    let can : Sendable a.x a.rows.now a.message.now a.frame.now = clear_send _ _ _ _ (sym c.send_cause-found.ensures ∙ c.in_default.is) in
     (can.settled, can.rows_exact, can.message_exact)
 
 pub next_sender-next-requires : goal.next_sender-next-requires
 next_sender-next-requires c =
-    let uncaused : send_cause c.args.x c.args.rows.now c.args.message.now c.args.frame.now ≡ answer.Accepted = sym c.send_cause-found.ensures ∙ c.in_default.is in
-    let sendable : Sendable c.args.x c.args.rows.now c.args.message.now c.args.frame.now = clear_send c.args.x c.args.rows.now c.args.message.now c.args.frame.now (uncaused) in
-    (sendable).in_time_lem
+    let a = c.args in
+    let can : Sendable a.x a.rows.now a.message.now a.frame.now = clear_send _ _ _ _ (sym c.send_cause-found.ensures ∙ c.in_default.is) in
+    can.in_time_lem
 
 pub returns : goal.returns
 returns c =
-    let uncaused : send_cause c.args.x c.args.rows.now c.args.message.now c.args.frame.now ≡ answer.Accepted = sym c.send_cause-found.ensures ∙ c.in_default.is in
     (λ i. sending (c.next_sender-next.ensures i) (c.remember.ensures i) (c.write_frame.ensures i))
-    ∙ sent c.args.x c.args.rows.now c.args.message.now c.args.frame.now (uncaused)
+    ∙ sent c.args.x c.args.rows.now c.args.message.now c.args.frame.now (sym c.send_cause-found.ensures ∙ c.in_default.is)
