@@ -1,5 +1,4 @@
 -- A line without room for the longest stays; else the line of the report is written.
-use borrow.Author.Rules.{rules}
 use borrow.Author.Tests.{not-true, not-false, leb-false}
 use mathlib.Core.Path.{◌≡◌, sym, ap₂, ◌∙◌, subst⁻¹}
 use mathlib.Core.Bool.{true, false}

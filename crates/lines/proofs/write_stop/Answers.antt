@@ -1,5 +1,4 @@
 -- The line of the cause's number.
-use borrow.Author.Rules.{rules}
 use mathlib.Core.Path.{ap, ◌∙◌}
 use Prim.Native.Nat.{ℕ}
 use Rattle.lines.specs.Lent.{stop_text_on}

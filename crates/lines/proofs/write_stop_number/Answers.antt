@@ -1,5 +1,4 @@
 -- A line without room stays; else the line of `stop` is written.
-use borrow.Author.Rules.{rules}
 use mathlib.Core.Path.{ap₂, ◌∙◌}
 use mathlib.Core.List.{List}
 use native.Mathlib.Omega.{arith}

@@ -1,5 +1,4 @@
 -- Each reply has its line.
-use borrow.Author.Rules.{rules}
 use mathlib.Core.Path.{refl}
 use Rattle.lines.specs.Text.{line_of, written}
 use Rattle.lines.proofs.text.put_line.Goals as goal

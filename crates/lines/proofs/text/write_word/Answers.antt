@@ -42,8 +42,7 @@ unfolding put
 returns c =
     let ended : c.write_decimal-at.result ≡ length (decimal c.args.about) = c.write_decimal-at.ensures.0 ∙ zero-add (length (decimal c.args.about)) in
     let begun : c.write_decimal-at.new.line ≡ written (decimal c.args.about) c.args.line.now = c.write_decimal-at.ensures.1 ∙ put_written (decimal c.args.about) c.args.line.now in
-    let text : List ℕ = decimal c.args.about in
-    (
+    let text : List ℕ = decimal c.args.about in (
       joined_end text c.args.word.now c.args.line.now c.write_decimal-at.result c.write_decimal-at.new.line c.write_at.new.out (ended) (begun) c.write_at.ensures,
       joined text c.args.word.now c.args.line.now c.write_decimal-at.result c.write_decimal-at.new.line c.write_at.new.out (ended) (begun) c.write_at.ensures,
     )
