@@ -26,7 +26,7 @@ pub fn has_room(line: usize, message: usize) -> bool
 
 // The line of a report, and how long it is: 0 where the lent line has no room for the longest.
 pub fn write_line(about: u32, reply: Reply, message: &[u8], line: &mut [u8]) -> usize
-    ensures { record { line = line.exit.now; len = result } ≡ line_on about reply message.now line.entry.now }
+    ensures { record { line = line.new; len = result } ≡ line_on about reply message.now line.old }
 {
     if !has_room(line.len(), message.len()) {
         return 0;
@@ -36,7 +36,7 @@ pub fn write_line(about: u32, reply: Reply, message: &[u8], line: &mut [u8]) -> 
 
 // The line of a refusal by its number, and how long it is: 0 where the lent line has no room for any number's.
 pub fn write_stop_number(n: u32, line: &mut [u8]) -> usize
-    ensures { record { line = line.exit.now; len = result } ≡ stop_text_on n line.entry.now }
+    ensures { record { line = line.new; len = result } ≡ stop_text_on n line.old }
 {
     if line.len() < 16 {
         return 0;
@@ -46,7 +46,7 @@ pub fn write_stop_number(n: u32, line: &mut [u8]) -> usize
 
 // That of a cause.
 pub fn write_stop(c: Cause, line: &mut [u8]) -> usize
-    ensures { record { line = line.exit.now; len = result } ≡ stop_on c line.entry.now }
+    ensures { record { line = line.new; len = result } ≡ stop_on c line.old }
 {
     write_stop_number(number_of(c), line)
 }
