@@ -1,24 +1,34 @@
 -- What a loss report meets comes first, then whether the message is in reach.
 use mathlib.Core.Path.{◌≡◌, sym, ap, ◌∙◌}
+use mathlib.Core.Bool.{Bool}
+use Prim.Native.Nat.{ℕ}
+use lib.IntN.{ℤ}
 use mir.Syntax.{w64}
+use mir.Val.{SFits, to_z, of_z}
 use mir.ValLaws.{to_z-of_z}
-use Rattle.protocol.specs.declared.Answer.TheVariants as answer
-use Rattle.protocol.specs.Causes.{out_of_reach, loss_cause}
+use Rattle.code.specs.declared.settings.Settings.{Settings}
+use Rattle.protocol.specs.Causes.{out_of_reach}
 use Rattle.causes.proofs.Parts.{refused_as_loss, refused_out_of_reach, look_up_clear}
 use Rattle.causes.proofs.lookup.look_up_cause.Goals as goal
 
+-- whether the message is in reach, as it was tested: its number is read back as it is
+tested : (s : Settings) (due : ℕ) (number : ℤ) (far : Bool) → SFits w64 number → far ≡ out_of_reach s due (to_z w64 (of_z w64 number))
+    → out_of_reach s due number ≡ far
+tested s due number far fits is = ap (out_of_reach s due) (sym (to_z-of_z w64 number fits)) ∙ sym is
+
 pub returns-in-Refused : goal.returns-in-Refused
 returns-in-Refused c =
-    refused_as_loss c.args.x c.args.rows.now c.args.number c.args.message.now _ (sym c.loss_cause-found.ensures ∙ c.in-Refused.is)
+    let a = c.args in
+    refused_as_loss a.x a.rows.now a.number a.message.now _ (sym c.loss_cause-found.ensures ∙ c.in-Refused.is)
 
 pub returns-then-out_of_reach : goal.returns-then-out_of_reach
 returns-then-out_of_reach c =
-    let clear : loss_cause c.args.x c.args.rows.now c.args.message.now ≡ answer.Accepted = sym c.loss_cause-found.ensures ∙ c.in_default.is in
-    let tested : out_of_reach c.args.x.settings c.args.x.due c.args.number ≡ c.out_of_reach.result = ap (out_of_reach c.args.x.settings c.args.x.due) (sym (to_z-of_z w64 c.args.number c.ranges.number)) ∙ sym c.out_of_reach.ensures in
-    refused_out_of_reach c.args.x c.args.rows.now c.args.number c.args.message.now (clear) (tested ∙ c.if-out_of_reach.true)
+    let a = c.args in
+    let far = tested a.x.settings a.x.due a.number c.out_of_reach.result c.ranges.number c.out_of_reach.ensures in
+    refused_out_of_reach a.x a.rows.now a.number a.message.now (sym c.loss_cause-found.ensures ∙ c.in_default.is) (far ∙ c.if-out_of_reach.true)
 
 pub returns : goal.returns
 returns c =
-    let clear : loss_cause c.args.x c.args.rows.now c.args.message.now ≡ answer.Accepted = sym c.loss_cause-found.ensures ∙ c.in_default.is in
-    let tested : out_of_reach c.args.x.settings c.args.x.due c.args.number ≡ c.out_of_reach.result = ap (out_of_reach c.args.x.settings c.args.x.due) (sym (to_z-of_z w64 c.args.number c.ranges.number)) ∙ sym c.out_of_reach.ensures in
-    look_up_clear c.args.x c.args.rows.now c.args.number c.args.message.now (clear) (tested ∙ c.if-out_of_reach.false)
+    let a = c.args in
+    let far = tested a.x.settings a.x.due a.number c.out_of_reach.result c.ranges.number c.out_of_reach.ensures in
+    look_up_clear a.x a.rows.now a.number a.message.now (sym c.loss_cause-found.ensures ∙ c.in_default.is) (far ∙ c.if-out_of_reach.false)
