@@ -81,6 +81,8 @@ write_symbol-grade-requires c =
 pub loop-i-preserved : goal.loop-i-preserved
 unfolding message_len
 loop-i-preserved c =
+    let ends : c.loop-i.i * c.args.s.lanes + c.args.s.lanes ≤ length c.loop-i.message = let below : c.loop-i.i < k_of c.args.s = omega arith in
+    omega (arith, mul-le-mul_right c.args.s.lanes below, suc-mul c.loop-i.i c.args.s.lanes) in
     let part-exact : let first = c.loop-i.i * c.args.s.lanes in
     length (take (first + c.args.s.lanes - first) (drop first c.loop-i.message)) ≡ c.args.s.lanes = let first : ℕ = c.loop-i.i * c.args.s.lanes in
     omega (
@@ -89,15 +91,13 @@ loop-i-preserved c =
       length-take (first + c.args.s.lanes - first) (drop first c.loop-i.message),
       length-drop first c.loop-i.message,
     ) in
-    let ends : c.loop-i.i * c.args.s.lanes + c.args.s.lanes ≤ length c.loop-i.message = let below : c.loop-i.i < k_of c.args.s = omega arith in
-    omega (arith, mul-le-mul_right c.args.s.lanes below, suc-mul c.loop-i.i c.args.s.lanes) in
     let first : ℕ = c.loop-i.i * c.args.s.lanes in
     let rest : List ℕ = drop (first + c.args.s.lanes - first) (drop first c.loop-i.message) in
-    let exact = c.write_symbol-grade.auto.1.1.1.1.1.1.1.0 ∙ part-exact in
+    let exact = c.write_symbol-grade.auto.out ∙ part-exact in
     let grown : (c.loop-i.i + 1) * c.args.s.lanes ≡ first + c.args.s.lanes = rw (add-one c.loop-i.i) (suc-mul c.loop-i.i c.args.s.lanes) in (
       c.loop-i.invariant.0,
       omega arith,
-      same_len_mid first (first + c.args.s.lanes - first) c.loop-i.message c.write_symbol-grade.new.out c.write_symbol-grade.auto.1.1.1.1.1.1.1.0 ∙ c.loop-i.invariant.2,
+      same_len_mid first (first + c.args.s.lanes - first) c.loop-i.message c.write_symbol-grade.new.out c.write_symbol-grade.auto.out ∙ c.loop-i.invariant.2,
       c.worse-worst.ensures ∙ ap₂ larger c.loop-i.invariant.3 c.write_symbol-grade.ensures.told.graded ∙ symbols_more c.args.s c.args.rows.now c.args.due c.args.t c.loop-i.i,
       λ zero q h.
           let both = larger_zero c.loop-i.worst c.write_symbol-grade.result (sym c.worse-worst.ensures ∙ zero) in
@@ -119,10 +119,6 @@ returns-then-worst-eq0 c =
           (λ q h. c.loop-i.invariant.4 c.if-worst-eq0.true q (omega arith));
     }
 
-pub shape_of-message-then-worst-eq1 : goal.shape_of-message-then-worst-eq1
-shape_of-message-then-worst-eq1 c =
-    omega (arith, c.clear.auto.0)
-
 pub returns-then-worst-eq1 : goal.returns-then-worst-eq1
 unfolding buffer_of
 returns-then-worst-eq1 c =
@@ -132,10 +128,6 @@ returns-then-worst-eq1 c =
       said = verdict_lost c.args.s c.args.rows.now c.args.due c.args.t (sym (graded) ∙ c.if-worst-eq1.true);
       message = c.clear.ensures ∙ ap (λ (m : ℕ). replicate m 0) c.loop-i.invariant.2;
     }
-
-pub shape_of-message : goal.shape_of-message
-shape_of-message c =
-    omega (arith, c.clear.auto.0)
 
 pub returns : goal.returns
 unfolding buffer_of

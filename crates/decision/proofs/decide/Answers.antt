@@ -11,6 +11,8 @@ use Rattle.protocol.specs.Lengths.{message_len, receiver_len}
 use Rattle.protocol.specs.Verdict.{buffer_of}
 use Rattle.decision.proofs.CallOutcomes.{outcome, bad_settings, bad_rows, bad_message, taken}
 use Rattle.decision.proofs.decide.Goals as goal
+use Rattle.decision.proofs.decide.Goals.{then-rows-receiver_len-via-then-rows-receiver_len}
+use Rattle.decision.proofs.decide.Goals.{then-rows-receiver_len-via-else-rows-receiver_len+then-message-message_len}
 
 pub returns-then-not-accepted : goal.returns-then-not-accepted
 returns-then-not-accepted c =
@@ -20,30 +22,28 @@ returns-then-not-accepted c =
 pub returns-then-rows-receiver_len : goal.returns-then-rows-receiver_len
 returns-then-rows-receiver_len c =
     let passed : T (accepted c.args.s) = subst⁻¹ T (sym c.accepted.ensures ∙ c.if-not-accepted.false) tt in
-    let ok = passed in
-    ⊎_elim
-    (λ w. bad_rows c.args.s c.args.rows.now c.args.due c.args.t c.args.message.now ok
-    (λ same. w.taken (same ∙ sym c.receiver_len.ensures)))
-    (λ w. bad_message c.args.s c.args.rows.now c.args.due c.args.t c.args.message.now ok (w.0.left ∙ c.receiver_len.ensures)
-    (λ same. eqb-false (length c.args.message.now) w.1.result (not-true _ w.2.taken) (same ∙ sym w.1.ensures)))
-    c.then-rows-receiver_len.branch
+    elim c.then-rows-receiver_len.branch [
+      | then-rows-receiver_len-via-then-rows-receiver_len w ↦
+          bad_rows c.args.s c.args.rows.now c.args.due c.args.t c.args.message.now passed
+          (λ same. w.if-rows-receiver_len.true (same ∙ sym c.receiver_len.ensures))
+      | then-rows-receiver_len-via-else-rows-receiver_len+then-message-message_len w ↦
+          bad_message c.args.s c.args.rows.now c.args.due c.args.t c.args.message.now passed
+          (w.if-rows-receiver_len.false ∙ c.receiver_len.ensures)
+          (λ same. w.if-message-message_len.true (same ∙ sym w.message_len.ensures))
+    ]
 
 pub decided-requires : goal.decided-requires
 decided-requires c =
     let passed : T (accepted c.args.s) = subst⁻¹ T (sym c.accepted.ensures ∙ c.if-not-accepted.false) tt in
     let full : length c.args.rows.now ≡ receiver_len c.args.s = c.if-rows-receiver_len.false ∙ c.receiver_len.ensures in
-    let fits : length c.args.message.now ≡ message_len c.args.s = eqb-true (length c.args.message.now) c.message_len.result (not-false _ c.if-message-message_len.false) ∙ c.message_len.ensures in
+    let fits : length c.args.message.now ≡ message_len c.args.s = c.if-message-message_len.false ∙ c.message_len.ensures in
     (record { settings = passed; rows_exact = full; slot_fits = omega arith }, omega arith, fits)
-
-pub shape_of-message : goal.shape_of-message
-shape_of-message c =
-    c.decided.auto.1.1.1.1.0
 
 pub returns : goal.returns
 returns c =
     let passed : T (accepted c.args.s) = subst⁻¹ T (sym c.accepted.ensures ∙ c.if-not-accepted.false) tt in
     let full : length c.args.rows.now ≡ receiver_len c.args.s = c.if-rows-receiver_len.false ∙ c.receiver_len.ensures in
-    let fits : length c.args.message.now ≡ message_len c.args.s = eqb-true (length c.args.message.now) c.message_len.result (not-false _ c.if-message-message_len.false) ∙ c.message_len.ensures in
+    let fits : length c.args.message.now ≡ message_len c.args.s = c.if-message-message_len.false ∙ c.message_len.ensures in
     ap (outcome c.decided.result) c.decided.ensures.message
     ∙ ap (λ (r : Reply). outcome r (buffer_of c.args.s c.args.rows.now c.args.due c.args.t r)) c.decided.ensures.said
     ∙ taken c.args.s c.args.rows.now c.args.due c.args.t c.args.message.now (passed) (full) (fits)
