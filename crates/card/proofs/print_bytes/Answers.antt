@@ -6,5 +6,5 @@ use lib.ListN.{length}
 use Rattle.card.proofs.print_bytes.Goals as goal
 
 pub overflow_cast-bytes : goal.overflow_cast-bytes
-overflow_cast-bytes c =
+overflow_cast-bytes g c =
     omega (arith, c.shared_slice_known-in-loop-q-1.given c.loop-q.q)

@@ -6,9 +6,9 @@ use lib.ListN.{length}
 use Rattle.card.proofs.print_bytes.Given as goal
 
 abbrev pub invariant-loop-q : goal.invariant-loop-q
-invariant-loop-q l =
+invariant-loop-q g l =
     0 ≤ l.q
 
 abbrev pub decreases-loop-q : goal.decreases-loop-q
-decreases-loop-q l =
+decreases-loop-q g l =
     length l.bytes - l.q

@@ -7,13 +7,13 @@ use lib.ListN.{length}
 use Rattle.card.proofs.report_all.Goals as goal
 
 pub loop-slot-init : goal.loop-slot-init
-loop-slot-init c =
+loop-slot-init g c =
     (zero-le, refl, refl)
 
 pub loop-slot-preserved : goal.loop-slot-preserved
-loop-slot-preserved c =
+loop-slot-preserved g c =
     (omega arith, omega arith, omega arith)
 
 pub shape_of-message : goal.shape_of-message
-shape_of-message c =
+shape_of-message g c =
     c.loop-slot.invariant.2

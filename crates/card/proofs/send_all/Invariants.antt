@@ -7,9 +7,9 @@ use lib.ListN.{length}
 use Rattle.card.proofs.send_all.Given as goal
 
 abbrev pub invariant-loop-slot : goal.invariant-loop-slot
-invariant-loop-slot l =
+invariant-loop-slot g l =
     (l.slot ≤ 6) × (length l.rows ≡ length l.initial.rows) × (length l.frames ≡ length l.initial.frames)
 
 abbrev pub decreases-loop-slot : goal.decreases-loop-slot
-decreases-loop-slot l =
+decreases-loop-slot g l =
     6 - l.slot

@@ -1,13 +1,11 @@
 -- The loop counts to the burst.
-use borrow.Author.Rules.{rules}
-use native.Mathlib.Omega.{arith}
 use Prim.Native.Nat.{◌+◌, ◌-◌, ◌≤◌}
 use Rattle.patterns.proofs.each_scattered.Given as goal
 
 abbrev pub invariant-loop-scattered : goal.invariant-loop-scattered
-invariant-loop-scattered l =
+invariant-loop-scattered g l =
     l.scattered ≤ l.burst + 1
 
 abbrev pub decreases-loop-scattered : goal.decreases-loop-scattered
-decreases-loop-scattered l =
+decreases-loop-scattered g l =
     l.burst + 1 - l.scattered

@@ -1,6 +1,4 @@
 -- The loop counts to 15.
-use borrow.Author.Rules.{rules}
-use native.Mathlib.Omega.{arith}
 use Prim.Native.Nat.{◌-◌, ◌≤◌}
 use Rattle.patterns.proofs.main.Given as goal
 

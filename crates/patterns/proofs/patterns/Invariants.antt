@@ -1,17 +1,14 @@
 -- The loop counts to six.
-use borrow.Author.Rules.{rules}
-use borrow.Author.Tests.{not-false}
-use mathlib.Core.Path.{◌≡◌, sym, ◌∙◌, subst⁻¹}
-use native.Mathlib.Omega.{arith}
+use mathlib.Core.Path.{◌≡◌}
 use Prim.Native.Nat.{◌-◌, ◌≤◌}
 use lib.Dec.{T}
 use Rattle.code.specs.Settings.{accepted}
 use Rattle.patterns.proofs.patterns.Given as goal
 
 abbrev pub invariant-loop-j : goal.invariant-loop-j
-invariant-loop-j l =
+invariant-loop-j g l =
     (l.j ≤ 6) × T (accepted l.s) × (l.s.lanes ≡ 1)
 
 abbrev pub decreases-loop-j : goal.decreases-loop-j
-decreases-loop-j l =
+decreases-loop-j g l =
     6 - l.j

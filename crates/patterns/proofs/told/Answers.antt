@@ -5,10 +5,6 @@ use native.Mathlib.Omega.{arith}
 use Rattle.code.proofs.Shape.{shape}
 use Rattle.patterns.proofs.told.Goals as goal
 
-pub arrive-requires : goal.arrive-requires
-arrive-requires c =
-    (c.requires.0, c.requires.1, search rules)
-
 pub write_symbol-requires : goal.write_symbol-requires
 write_symbol-requires c =
     let h = shape _ c.requires.0 in (

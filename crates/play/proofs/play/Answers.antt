@@ -13,16 +13,16 @@ use Rattle.player.proofs.LoopLaws.{rows_few, message_few}
 use Rattle.play.proofs.play.Goals as goal
 
 pub slice_bounds-put-end : goal.slice_bounds-put-end
-slice_bounds-put-end c =
+slice_bounds-put-end g c =
     omega (arith, stop_fits (number_of c.in-Stop.c) c.args.out.now, ap (λ (r : Line). r.len) c.write_stop-n.ensures)
 
 pub slice_bounds-play_steps-end : goal.slice_bounds-play_steps-end
-slice_bounds-play_steps-end c =
+slice_bounds-play_steps-end g c =
     let ok : T (accepted c.in-Play.s) = play_accepted c.args.recording.now c.in-Play.s (sym c.examine.ensures ∙ c.in-Play.is) in
     omega (arith, rows_few c.in-Play.s (ok), c.receiver_len-rows_end.ensures)
 
 pub play_steps-requires : goal.play_steps-requires
-play_steps-requires c =
+play_steps-requires g c =
     let ok : T (accepted c.in-Play.s) = play_accepted c.args.recording.now c.in-Play.s (sym c.examine.ensures ∙ c.in-Play.is) in
     let few = message_few c.in-Play.s (ok) in
     let part = length-take c.message_len-message_end.result c.args.message.now in

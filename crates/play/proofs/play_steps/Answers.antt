@@ -19,11 +19,11 @@ abbrev recording : At → List ℕ
 recording c = (loop c).before.before.before.before.before.before.before.before.before.before.before.before.args.recording.now
 
 pub loop-filled-init : goal.loop-filled-init
-loop-filled-init c =
+loop-filled-init g c =
     (omega arith, refl, refl, refl)
 
 pub slice_bounds-put-end : goal.slice_bounds-put-end
-slice_bounds-put-end c =
+slice_bounds-put-end g c =
     let filled : made c ≡ filled_of c.loop-filled.p (recording c) c.loop-filled.rows c.loop-filled.message c.loop-filled.out = c.fill-filled.ensures in
     let kept : length (filled_of c.loop-filled.p (recording c) c.loop-filled.rows c.loop-filled.message c.loop-filled.out).out ≡ length c.loop-filled.out =
     sym (ap (λ (r : Outcome). length r.out) (filled)) ∙ c.fill-filled.auto.1.1.1.1.0 in
@@ -36,12 +36,12 @@ slice_bounds-put-end c =
 
 pub loop-filled-smaller : goal.loop-filled-smaller
 unfolding longest
-loop-filled-smaller c =
+loop-filled-smaller g c =
     let filled : made c ≡ filled_of c.loop-filled.p (recording c) c.loop-filled.rows c.loop-filled.message c.loop-filled.out = c.fill-filled.ensures in
     let more = sym (ap (λ (r : Outcome). r.over) (filled)) ∙ c.if-filled.false in
     subst (λ (r : Outcome). steps_left (recording c) r.player < steps_left (recording c) c.loop-filled.p) (sym (filled))
     (filled_fewer c.loop-filled.p (recording c) c.loop-filled.rows c.loop-filled.message c.loop-filled.out c.loop-filled.invariant.0 more)
 
 pub loop-filled-preserved : goal.loop-filled-preserved
-loop-filled-preserved c =
+loop-filled-preserved g c =
     (omega arith, omega arith, omega arith, omega arith)

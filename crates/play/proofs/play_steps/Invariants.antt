@@ -13,10 +13,10 @@ use Rattle.player.proofs.StepsLeft.{steps_left}
 use Rattle.play.proofs.play_steps.Given as goal
 
 abbrev pub invariant-loop-filled : goal.invariant-loop-filled
-invariant-loop-filled l =
+invariant-loop-filled g l =
     (18 + 2 * length l.message ≤ length l.out)
     × (length l.rows ≡ length l.initial.rows) × (length l.message ≡ length l.initial.message) × (length l.out ≡ length l.initial.out)
 
 abbrev pub decreases-loop-filled : goal.decreases-loop-filled
-decreases-loop-filled l =
+decreases-loop-filled g l =
     steps_left l.recording l.p

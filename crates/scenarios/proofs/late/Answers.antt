@@ -6,5 +6,5 @@ use Rattle.scenarios.proofs.late.Goals as goal
 
 pub overflow_cast-rows : goal.overflow_cast-rows
 unfolding row_count k_of delay_of
-overflow_cast-rows c =
+overflow_cast-rows g c =
     omega arith

@@ -3,5 +3,5 @@ use Rattle.std.proofs.Common.{◌-◌, ◌≤◌, zero-le, arith, rules}
 use Rattle.scenarios.proofs.rounds.Goals as goal
 
 pub loop-i-init : goal.loop-i-init
-loop-i-init c =
+loop-i-init g c =
     zero-le

@@ -1,5 +1,4 @@
 -- k is at most n, and n above 0.
-use borrow.Author.Rules.{rules}
 use native.Mathlib.Omega.{arith}
 use Rattle.code.specs.Settings.{k_of, n_of}
 use Rattle.patterns.proofs.word.arrived.Goals as goal

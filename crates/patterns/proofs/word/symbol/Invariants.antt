@@ -1,7 +1,5 @@
 -- The loop stays inside the rows.
-use borrow.Author.Rules.{rules}
-use native.Mathlib.Omega.{arith}
-use Prim.Native.Nat.{◌-◌, ◌≤◌, zero-le}
+use Prim.Native.Nat.{◌-◌, ◌≤◌}
 use Rattle.patterns.proofs.word.symbol.Given as goal
 
 abbrev pub invariant-loop-r : goal.invariant-loop-r

@@ -14,17 +14,17 @@ use Rattle.player.proofs.LoopLaws.{rows_few, message_few}
 use Rattle.play.proofs.pair.play.Goals as goal
 
 pub slice_bounds-put-end : goal.slice_bounds-put-end
-slice_bounds-put-end c =
+slice_bounds-put-end g c =
     omega (arith, stop_fits c.in-Stop.n c.args.out.now, ap (λ (r : Line). r.len) c.write_stop_number-end.ensures)
 
 pub slice_bounds-play_steps-end : goal.slice_bounds-play_steps-end
-slice_bounds-play_steps-end c =
+slice_bounds-play_steps-end g c =
     let accepts : pair_cause c.in-Play.s c.args.first.now c.args.second.now ≡ 0 = played_accepted c.args.first.now c.args.second.now c.in-Play.s (sym c.examine.ensures ∙ c.in-Play.is) in
     let ok : T (accepted c.in-Play.s) = (checked c.in-Play.s c.args.first.now c.args.second.now (accepts)).settings in
     omega (arith, rows_few c.in-Play.s (ok), c.receiver_len-rows_end.ensures)
 
 pub play_steps-requires : goal.play_steps-requires
-play_steps-requires c =
+play_steps-requires g c =
     let ok : T (accepted c.in-Play.s) = (checked c.in-Play.s c.args.first.now c.args.second.now (accepts)).settings in
     let accepts : pair_cause c.in-Play.s c.args.first.now c.args.second.now ≡ 0 = played_accepted c.args.first.now c.args.second.now c.in-Play.s (sym c.examine.ensures ∙ c.in-Play.is) in
     let few = message_few c.in-Play.s (ok) in

@@ -36,7 +36,7 @@ abbrev one : At → List ℕ
 one c = (start (loop c)).args.first.now
 
 pub loop-stepped-init : goal.loop-stepped-init
-loop-stepped-init c =
+loop-stepped-init g c =
     let player = ap (λ (b : Begun). b.player.receiver.settings) c.begin-p.ensures in (
       rw (player ∙ begun c.args.s c.args.first.now c.args.second.now c.args.rows.now c.args.message.now c.requires.0 c.requires.1) c.requires.0,
       omega arith,
@@ -46,12 +46,12 @@ loop-stepped-init c =
     )
 
 pub step-stepped-requires : goal.step-stepped-requires
-step-stepped-requires c =
+step-stepped-requires g c =
     (c.loop-stepped.invariant.0, c.loop-stepped.invariant.1)
 
 pub slice_bounds-put-end : goal.slice_bounds-put-end
 unfolding pair_step_of printed_on
-slice_bounds-put-end c =
+slice_bounds-put-end g c =
     let stepped : made c ≡ pair_step_of c.loop-stepped.p (one c) (two c) c.loop-stepped.rows c.loop-stepped.message c.loop-stepped.line = c.step-stepped.ensures in
     omega (
       arith,
@@ -63,7 +63,7 @@ slice_bounds-put-end c =
 
 pub loop-stepped-smaller : goal.loop-stepped-smaller
 unfolding pair_step_of printed_on
-loop-stepped-smaller c =
+loop-stepped-smaller g c =
     let stepped : made c ≡ pair_step_of c.loop-stepped.p (one c) (two c) c.loop-stepped.rows c.loop-stepped.message c.loop-stepped.line = c.step-stepped.ensures in
     let more = sym (ap (λ (r : Outcome). r.over) (stepped)) ∙ c.if-stepped.false in
     subst (λ (r : Outcome). pair_left (one c) (two c) r.player < pair_left (one c) (two c) c.loop-stepped.p) (sym (stepped))
@@ -71,7 +71,7 @@ loop-stepped-smaller c =
 
 pub loop-stepped-preserved : goal.loop-stepped-preserved
 unfolding pair_step_of printed_on
-loop-stepped-preserved c =
+loop-stepped-preserved g c =
     let stepped : made c ≡ pair_step_of c.loop-stepped.p (one c) (two c) c.loop-stepped.rows c.loop-stepped.message c.loop-stepped.line = c.step-stepped.ensures in
     let settings = ap (λ (r : Outcome). r.player.receiver.settings) (stepped)
     ∙ pair_kept c.loop-stepped.p (one c) (two c) c.loop-stepped.rows c.loop-stepped.message in

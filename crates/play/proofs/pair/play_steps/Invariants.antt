@@ -18,10 +18,10 @@ use Rattle.pairplay.proofs.Left.{pair_left, pair_fewer, pair_kept, pair_fits}
 use Rattle.play.proofs.pair.play_steps.Given as goal
 
 abbrev pub invariant-loop-stepped : goal.invariant-loop-stepped
-invariant-loop-stepped l =
+invariant-loop-stepped g l =
     (pair_cause l.p.receiver.settings l.first l.second ≡ 0) × (18 + 2 * length l.message ≤ length l.line)
     × (length l.rows ≡ length l.initial.rows) × (length l.message ≡ length l.initial.message) × (length l.line ≡ length l.initial.line)
 
 abbrev pub decreases-loop-stepped : goal.decreases-loop-stepped
-decreases-loop-stepped l =
+decreases-loop-stepped g l =
     pair_left l.first l.second l.p

@@ -3,9 +3,9 @@ use Rattle.std.proofs.Common.{◌-◌, ◌≤◌, zero-le, arith, rules}
 use Rattle.scenarios.proofs.game.sent_before.Given as goal
 
 abbrev pub invariant-loop-i : goal.invariant-loop-i
-invariant-loop-i l =
+invariant-loop-i g l =
     l.i ≤ l.count
 
 abbrev pub decreases-loop-i : goal.decreases-loop-i
-decreases-loop-i l =
+decreases-loop-i g l =
     l.count - l.i

@@ -3,9 +3,9 @@ use Rattle.std.proofs.Common.{◌≡◌, ◌-◌, ◌≤◌, length, refl, zero-
 use Rattle.scenarios.proofs.openings.of_sender.Given as goal
 
 abbrev pub invariant-loop-r : goal.invariant-loop-r
-invariant-loop-r l =
+invariant-loop-r g l =
     (l.r ≤ 12) × (length l.rows ≡ length l.initial.rows)
 
 abbrev pub decreases-loop-r : goal.decreases-loop-r
-decreases-loop-r l =
+decreases-loop-r g l =
     12 - l.r

@@ -6,9 +6,9 @@ use lib.ListN.{length}
 use Rattle.trace.proofs.print.sum.Goals as goal
 
 pub loop-q-init : goal.loop-q-init
-loop-q-init c =
+loop-q-init g c =
     (omega arith, omega arith, omega arith)
 
 pub loop-q-preserved : goal.loop-q-preserved
-loop-q-preserved c =
+loop-q-preserved g c =
     (omega arith, omega arith, omega arith)

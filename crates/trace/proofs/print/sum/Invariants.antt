@@ -6,9 +6,9 @@ use lib.ListN.{length}
 use Rattle.trace.proofs.print.sum.Given as goal
 
 abbrev pub invariant-loop-q : goal.invariant-loop-q
-invariant-loop-q l =
+invariant-loop-q g l =
     (l.q ≤ length l.bytes) × (l.tail < 65521) × (l.total < 65521)
 
 abbrev pub decreases-loop-q : goal.decreases-loop-q
-decreases-loop-q l =
+decreases-loop-q g l =
     l.q
