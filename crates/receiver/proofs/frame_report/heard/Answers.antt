@@ -19,14 +19,6 @@ row_fits : (s : Settings) (frame : List ℕ) → length frame ≡ frame_len s �
 unfolding frame_len row_len
 row_fits s frame e = omega (arith, length-drop 14 frame)
 
-pub shape_of-rows-in-Refused : goal.shape_of-rows-in-Refused
-shape_of-rows-in-Refused c =
-    refl
-
-pub shape_of-message-in-Refused : goal.shape_of-message-in-Refused
-shape_of-message-in-Refused c =
-    refl
-
 pub returns-in-Refused : goal.returns-in-Refused
 returns-in-Refused c =
     ap (λ r. record { reply = r.reply; receiver = r.receiver; rows = c.args.rows.now; message = c.args.message.now }) c.refused.ensures
@@ -50,14 +42,6 @@ moved_on-requires c =
           ∙ kept c.args.x.settings c.args.x.due c.args.rows.now (1 ∷ drop 14 c.args.frame.now) f.rows_exact (row_fits c.args.x.settings c.args.frame.now f.frame_exact),
       f.message_exact,
     )
-
-pub shape_of-rows : goal.shape_of-rows
-shape_of-rows c =
-    c.record_heard.auto.0
-
-pub shape_of-message : goal.shape_of-message
-shape_of-message c =
-    c.moved_on.auto.1.1.0
 
 pub returns : goal.returns
 unfolding moved_on

@@ -40,12 +40,12 @@ returns-in-Refused c =
 
 pub returns : goal.returns
 returns c =
-    let clear : LossOpen c.args.x c.args.rows.now c.args.message.now = (look_up_open c.args.x c.args.rows.now c.args.number c.args.message.now (uncaused)).0 in
-    let reach : (t : ℕ) × InReach c.args.x.settings c.args.x.due c.args.number t = let (clear, t, within) = look_up_open c.args.x c.args.rows.now c.args.number c.args.message.now (uncaused) in
-    (t, within) in
     let cause : c.look_up_cause-found.result ≡ look_up_cause c.args.x c.args.rows.now c.args.number c.args.message.now = subst (λ (z : ℤ). c.look_up_cause-found.result ≡ look_up_cause c.args.x c.args.rows.now z c.args.message.now)
     (to_z-of_z w64 c.args.number c.ranges.number) c.look_up_cause-found.ensures in
     let uncaused : look_up_cause c.args.x c.args.rows.now c.args.number c.args.message.now ≡ answer.Accepted = sym (cause) ∙ c.in_default.is in
+    let clear : LossOpen c.args.x c.args.rows.now c.args.message.now = (look_up_open c.args.x c.args.rows.now c.args.number c.args.message.now (uncaused)).0 in
+    let reach : (t : ℕ) × InReach c.args.x.settings c.args.x.due c.args.number t = let (clear, t, within) = look_up_open c.args.x c.args.rows.now c.args.number c.args.message.now (uncaused) in
+    (t, within) in
     let read : to_z w64 (of_z w64 c.args.number) ≡ pos (reach).0 = to_z-of_z w64 c.args.number c.ranges.number ∙ (reach).1.0 in
     let f = clear in
     let t : ℕ = (reach).0 in
@@ -54,3 +54,17 @@ returns c =
     looked c.args.x c.args.rows.now c.args.number c.args.message.now t (reach).1.0 (uncaused) c.decide.result _
     (says.0 ∙ ap (λ (z : ℤ). verdict c.args.x.settings c.args.rows.now c.args.x.due (nat_abs z)) (read))
     (says.1 ∙ ap (λ (z : ℤ). buffer_of c.args.x.settings c.args.rows.now c.args.x.due (nat_abs z) c.decide.result) (read))
+
+pub overflow_cast-number : goal.overflow_cast-number
+unfolding last_slot
+overflow_cast-number c =
+    let cause : c.look_up_cause-found.result ≡ look_up_cause c.args.x c.args.rows.now c.args.number c.args.message.now = subst (λ (z : ℤ). c.look_up_cause-found.result ≡ look_up_cause c.args.x c.args.rows.now z c.args.message.now)
+    (to_z-of_z w64 c.args.number c.ranges.number) c.look_up_cause-found.ensures in
+    let uncaused : look_up_cause c.args.x c.args.rows.now c.args.number c.args.message.now ≡ answer.Accepted = sym (cause) ∙ c.in_default.is in
+    let clear : LossOpen c.args.x c.args.rows.now c.args.message.now = (look_up_open c.args.x c.args.rows.now c.args.number c.args.message.now (uncaused)).0 in
+    let reach : (t : ℕ) × InReach c.args.x.settings c.args.x.due c.args.number t = let (clear, t, within) = look_up_open c.args.x c.args.rows.now c.args.number c.args.message.now (uncaused) in
+    (t, within) in
+    let read : to_z w64 (of_z w64 c.args.number) ≡ pos (reach).0 = to_z-of_z w64 c.args.number c.ranges.number ∙ (reach).1.0 in
+    let in_time_lem = clear.in_time_lem in
+    let below = reach.1.1 in
+    subst⁻¹ (λ (z : ℤ). T (non_neg z) × Fits w32 (nat_abs z)) read (tt, record { fits = omega arith })

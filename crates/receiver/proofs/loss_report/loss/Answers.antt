@@ -11,14 +11,6 @@ use Rattle.protocol.proofs.ReportSteps.{loss_stays, loss_moves}
 use Rattle.ring.proofs.RowEnds.{kept}
 use Rattle.receiver.proofs.loss_report.loss.Goals as goal
 
-pub shape_of-rows-in-Refused : goal.shape_of-rows-in-Refused
-shape_of-rows-in-Refused c =
-    refl
-
-pub shape_of-message-in-Refused : goal.shape_of-message-in-Refused
-shape_of-message-in-Refused c =
-    refl
-
 pub returns-in-Refused : goal.returns-in-Refused
 returns-in-Refused c =
     ap (λ r. record { reply = r.reply; receiver = r.receiver; rows = c.args.rows.now; message = c.args.message.now }) c.refused.ensures
@@ -42,14 +34,6 @@ moved_on-requires c =
           ∙ kept c.args.x.settings c.args.x.due c.args.rows.now (replicate (row_len c.args.x.settings) 0) f.rows_exact (length-replicate (row_len c.args.x.settings) 0),
       f.message_exact,
     )
-
-pub shape_of-rows : goal.shape_of-rows
-shape_of-rows c =
-    c.record_lost.auto.0
-
-pub shape_of-message : goal.shape_of-message
-shape_of-message c =
-    c.moved_on.auto.1.1.0
 
 pub returns : goal.returns
 unfolding moved_on
