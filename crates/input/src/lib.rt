@@ -1,7 +1,8 @@
 // Reading a file to its end: one that is open, as standard input, or one that an argument names.
 #![tactic(auto)]
 
-ghost use Rattle.std.specs.Prelude.{◌≡◌, ◌≤◌, length};
+ghost use Rattle.std.specs.Prelude.{◌≡◌, ◌≤◌, ◌<◌, length, take, IsNone};
+ghost use Rattle.std.specs.Io.KnownBytes.{Consumes, IsAtEnd};
 
 use std::env::FillError;
 use std::io::{Error, ErrorKind, Read};
@@ -18,7 +19,9 @@ pub struct Input {
 // Reads until the end, or until the buffer is full; a read may deliver only a piece. The bytes of the buffer are the system's to write,
 // and are all left open here, those behind the ones that were read too.
 pub fn read_all<R: Read>(reader: &mut R, buf: &mut [u8]) -> Input
-    ensures { result.len ≤ length buf.new }
+    ensures len { result.len ≤ length buf.new }
+    ensures bytes { Consumes (R.remaining reader.old) (R.remaining reader.new) (take result.len buf.new) }
+    ensures end { IsNone result.failed → result.len < length buf.new → IsAtEnd (R.remaining reader.new) }
 {
     let mut done: usize = 0;
     while done < buf.len() {
