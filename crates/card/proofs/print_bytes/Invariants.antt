@@ -1,6 +1,4 @@
 -- The loop goes up to the end of the bytes.
-use borrow.Author.Rules.{rules}
-use native.Mathlib.Omega.{arith}
 use Prim.Native.Nat.{◌-◌, ◌≤◌}
 use lib.ListN.{length}
 use Rattle.card.proofs.print_bytes.Given as goal
