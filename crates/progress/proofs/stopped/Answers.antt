@@ -9,4 +9,4 @@ use Rattle.progress.proofs.stopped.Goals as goal
 pub returns : goal.returns
 returns c =
     let wrote = stop_parts (number_of c.args.c) c.args.line.now _ _ c.write_stop-len.ensures (omega arith) in
-    (refl, (wrote.0, (refl, wrote.1)))
+    record { player = refl; len = wrote.0; over = refl; line = wrote.1 }

@@ -15,10 +15,6 @@ use Rattle.reporting.proofs.at_frame.Goals as goal
 fits_kept : (before after line : List ℕ) → length after ≡ length before → 18 + 2 * length before ≤ length line → 18 + 2 * length after ≤ length line
 fits_kept before after line same fits = omega arith
 
-pub shape_of-line-in-Refused : goal.shape_of-line-in-Refused
-shape_of-line-in-Refused c =
-    c.stopped.auto.1.1.0
-
 pub returns-in-Refused : goal.returns-in-Refused
 returns-in-Refused c =
     stop_line_lem c.args.line.now _ _ _ _ c.args.p c.args.rows.now c.args.message.now c.in-Refused.c
@@ -29,19 +25,7 @@ returns-in-Refused c =
 
 pub told-requires : goal.told-requires
 told-requires c =
-    fits_kept c.args.message.now c.report_kept-r.new.message c.args.line.now c.report_kept-r.auto.1.1.1.1.0 c.requires.1
-
-pub shape_of-rows : goal.shape_of-rows
-shape_of-rows c =
-    c.report_kept-r.auto.1.0
-
-pub shape_of-message : goal.shape_of-message
-shape_of-message c =
-    c.report_kept-r.auto.1.1.1.1.0
-
-pub shape_of-line : goal.shape_of-line
-shape_of-line c =
-    c.told.auto.1.1.1.1.0
+    fits_kept c.args.message.now c.report_kept-r.new.message c.args.line.now c.report_kept-r.auto.message c.requires.1
 
 pub returns : goal.returns
 returns c =

@@ -13,4 +13,4 @@ begun message o = record { player = record { receiver = o.receiver; offset = 0 }
 pub returns : goal.returns
 unfolding begin_of
 returns c =
-    ap₂ begun c.clear.ensures cleared.before.before.before.before.«open».ensures
+    ap₂ begun c.clear.ensures c.open-opened.ensures

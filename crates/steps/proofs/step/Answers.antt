@@ -25,6 +25,14 @@ slice_bounds-at_frame-start c =
     (sym (found) ∙ c.in-Frame.is) in
     omega (arith, said)
 
+pub slice_bounds-at_frame-count : goal.slice_bounds-at_frame-count
+slice_bounds-at_frame-count c =
+    let found : c.next_frame.result ≡ found_at c.args.recording.now c.args.p.offset (frame_len c.args.p.receiver.settings) = c.next_frame.ensures ∙ ap (found_at c.args.recording.now c.args.p.offset) c.frame_len.ensures in
+    let said : let size = frame_len c.args.p.receiver.settings in
+    (c.in-Frame.start ≡ c.args.p.offset) × (c.in-Frame.end ≡ c.args.p.offset + size) × (c.args.p.offset + size ≤ length c.args.recording.now) × (0 < size) = frame_says c.args.recording.now c.args.p.offset (frame_len c.args.p.receiver.settings) c.in-Frame.start c.in-Frame.end
+    (sym (found) ∙ c.in-Frame.is) in
+    omega (arith, said)
+
 pub slice_bounds-at_frame-end : goal.slice_bounds-at_frame-end
 slice_bounds-at_frame-end c =
     let found : c.next_frame.result ≡ found_at c.args.recording.now c.args.p.offset (frame_len c.args.p.receiver.settings) = c.next_frame.ensures ∙ ap (found_at c.args.recording.now c.args.p.offset) c.frame_len.ensures in
@@ -52,10 +60,6 @@ returns-in-End c =
     ∙ ap (printed_on c.args.line.now)
     (ends c.args.p c.args.recording.now c.args.rows.now c.args.message.now (sym (found) ∙ c.in-End.is))
 
-pub shape_of-line-in-Part : goal.shape_of-line-in-Part
-shape_of-line-in-Part c =
-    c.stopped.auto.1.1.0
-
 pub returns-in-Part : goal.returns-in-Part
 returns-in-Part c =
     let found : c.next_frame.result ≡ found_at c.args.recording.now c.args.p.offset (frame_len c.args.p.receiver.settings) = c.next_frame.ensures ∙ ap (found_at c.args.recording.now c.args.p.offset) c.frame_len.ensures in
@@ -63,18 +67,6 @@ returns-in-Part c =
     c.stopped.ensures.player c.stopped.ensures.len c.stopped.ensures.over c.stopped.ensures.line
     ∙ ap (printed_on c.args.line.now)
     (parts c.args.p c.args.recording.now c.args.rows.now c.args.message.now (sym (found) ∙ c.in-Part.is))
-
-pub shape_of-rows : goal.shape_of-rows
-shape_of-rows c =
-    c.at_frame.auto.1.1.1.0
-
-pub shape_of-message : goal.shape_of-message
-shape_of-message c =
-    c.at_frame.auto.1.1.1.1.0
-
-pub shape_of-line-in-Frame : goal.shape_of-line-in-Frame
-shape_of-line-in-Frame c =
-    c.at_frame.auto.1.1.1.1.1.0
 
 pub returns-in-Frame : goal.returns-in-Frame
 returns-in-Frame c =
