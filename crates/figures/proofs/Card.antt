@@ -11,7 +11,7 @@ use Rattle.protocol.specs.Lengths.{receiver_len}
 use Rattle.protocol.specs.Calls.{OpenedReceiver, open_receiver_of}
 use Rattle.protocol.specs.TwoLists.{ReportMade}
 use Rattle.protocol.proofs.QuickVerdict.{quick_reports, small, small_frames, quick_reports_lem}
-use Rattle.figures.specs.Card.{Told, told, Figure, figures, set_to, row_of, parity, unit_parities, send_calls, sent, frames_of, bodies_of}
+use Rattle.figures.specs.Card.{told, Figure, figures, set_to, row_of, parity, unit_parities, send_calls, sent, frames_of, bodies_of}
 use Rattle.figures.specs.Card.{Fate, reports_of, calls, reported, told_by, told_of}
 use Rattle.figures.proofs.Computing.{computing}
 
