@@ -1,5 +1,4 @@
 -- The length that the lent settings give.
-use borrow.Author.Rules.{rules}
 use Rattle.protocol.specs.Lengths.{message_len}
 use Rattle.library.proofs.Outcomes.{length_for_lem}
 use Rattle.tob.proofs.lengths.tob_message_len.Goals as goal

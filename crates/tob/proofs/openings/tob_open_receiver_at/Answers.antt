@@ -1,5 +1,4 @@
 -- A cause that the settings or the state give refuses the opening; else it is protocol's.
-use borrow.Author.Rules.{rules}
 use mathlib.Core.Path.{◌≡◌, sym, ap, ap₂, ◌∙◌}
 use mathlib.Core.List.{List}
 use Prim.Native.Nat.{ℕ}

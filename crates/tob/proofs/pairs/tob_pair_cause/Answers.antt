@@ -1,5 +1,4 @@
 -- The settings as the caller lends them.
-use borrow.Author.Rules.{rules}
 use mathlib.Core.Path.{◌∙◌, ap}
 use Rattle.code.specs.declared.settings.Settings.{Settings}
 use Rattle.aerials.specs.Pair.{pair_cause}

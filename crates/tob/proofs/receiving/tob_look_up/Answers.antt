@@ -1,5 +1,4 @@
 -- A cause that the state gives refuses the look_up; else it is protocol's, and its number is the reply.
-use borrow.Author.Rules.{rules}
 use mathlib.Core.Path.{◌≡◌, sym, ap, ap₂, ◌∙◌}
 use mathlib.Core.List.{List}
 use native.Mathlib.Omega.{arith}
@@ -39,5 +38,5 @@ returns c =
     ∙ ap looked_bytes
     (c.look_up.ensures
     ∙ ap₂ (λ (x : Receiver) (z : ℤ). look_up_of x c.args.rows.now z c.args.message.now) c.receiver_in.ensures
-    (to_z-of_z w64 c.args.number (c).fits.number))
+    (to_z-of_z w64 c.args.number c.ranges.number))
     ∙ look_up_uncaused c.args.state.now c.args.rows.now c.args.message.now c.args.number (uncaused)

@@ -1,12 +1,11 @@
 -- A cause leaves the lent slot as it was; else it is the slot of its header.
-use borrow.Author.Rules.{rules}
 use mathlib.Core.Path.{◌≡◌, sym, ap, ap₂, ◌∙◌}
 use native.Mathlib.Omega.{arith}
 use Prim.Native.Nat.{ℕ}
 use Rattle.protocol.specs.declared.Answer.{Answer}
 use Rattle.protocol.specs.declared.Answer.TheVariants as answer
 use Rattle.frames.specs.Fields.{slot_in, slot_read_cause}
-use Rattle.library.specs.Calls.{Reading, read_by, frame_slot_bytes}
+use Rattle.library.specs.Calls.{read_by, frame_slot_bytes}
 use Rattle.library.proofs.Slots.{frame_sized}
 use Rattle.tob.proofs.slots.tob_frame_slot.Goals as goal
 

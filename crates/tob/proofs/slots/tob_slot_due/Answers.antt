@@ -1,5 +1,4 @@
 -- A cause leaves the lent slot as it was; else it is the slot that the state keeps.
-use borrow.Author.Rules.{rules}
 use mathlib.Core.Path.{◌≡◌, sym, ap, ap₂, ◌∙◌}
 use native.Mathlib.Omega.{arith}
 use Prim.Native.Nat.{ℕ}
@@ -7,7 +6,7 @@ use Rattle.protocol.specs.declared.Answer.{Answer}
 use Rattle.protocol.specs.declared.Answer.TheVariants as answer
 use Rattle.frames.specs.Fields.{slot_at}
 use Rattle.state.specs.State.{due_read_cause}
-use Rattle.library.specs.Calls.{Reading, read_by, slot_due_bytes}
+use Rattle.library.specs.Calls.{read_by, slot_due_bytes}
 use Rattle.library.proofs.Slots.{due_sized}
 use Rattle.tob.proofs.slots.tob_slot_due.Goals as goal
 
