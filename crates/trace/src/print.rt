@@ -1,4 +1,4 @@
-// The parts of a line. Each but the first has a space before it. No contract can say what is printed, and nothing lent is changed.
+// The parts of a line. Each but the first has a space before it. Nothing lent is changed.
 ghost use Rattle.std.specs.Prelude.{◌<◌};
 
 use code::Settings;

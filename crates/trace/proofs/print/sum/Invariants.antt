@@ -1,6 +1,4 @@
 -- The loop stays inside the slice, and both sums below 65521.
-use borrow.Author.Rules.{rules}
-use native.Mathlib.Omega.{arith}
 use Prim.Native.Nat.{◌≤◌, ◌<◌}
 use lib.ListN.{length}
 use Rattle.trace.proofs.print.sum.Given as goal
