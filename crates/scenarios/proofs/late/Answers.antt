@@ -1,5 +1,5 @@
 -- The number of rows fits 32 bits.
-use Rattle.std.proofs.Common.{arith, rules}
+use Rattle.std.proofs.Common.{arith}
 use Rattle.code.specs.Settings.{delay_of, k_of}
 use Rattle.protocol.specs.Lengths.{row_count}
 use Rattle.scenarios.proofs.late.Goals as goal

@@ -1,5 +1,5 @@
 -- The loop counts the slots.
-use Rattle.std.proofs.Common.{◌-◌, ◌≤◌, zero-le, arith, rules}
+use Rattle.std.proofs.Common.{◌-◌, ◌≤◌}
 use Rattle.scenarios.proofs.game.sent_before.Given as goal
 
 abbrev pub invariant-loop-i : goal.invariant-loop-i

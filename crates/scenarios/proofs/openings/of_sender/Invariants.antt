@@ -1,5 +1,5 @@
 -- The loop counts to twelve.
-use Rattle.std.proofs.Common.{◌≡◌, ◌-◌, ◌≤◌, length, refl, zero-le, arith, rules}
+use Rattle.std.proofs.Common.{◌≡◌, ◌-◌, ◌≤◌, length}
 use Rattle.scenarios.proofs.openings.of_sender.Given as goal
 
 abbrev pub invariant-loop-r : goal.invariant-loop-r

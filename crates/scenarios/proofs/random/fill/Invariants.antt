@@ -1,5 +1,5 @@
 -- The loop stays inside the slice.
-use Rattle.std.proofs.Common.{◌≡◌, ◌-◌, ◌≤◌, length, refl, arith, length-set, rules}
+use Rattle.std.proofs.Common.{◌≡◌, ◌-◌, ◌≤◌, length}
 use Rattle.scenarios.proofs.random.fill.Given as goal
 
 abbrev pub invariant-loop-q : goal.invariant-loop-q

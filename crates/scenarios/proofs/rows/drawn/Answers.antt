@@ -1,5 +1,5 @@
 -- A row has a first byte.
-use Rattle.std.proofs.Common.{arith, rules}
+use Rattle.std.proofs.Common.{arith}
 use Rattle.protocol.specs.Lengths.{row_len}
 use Rattle.scenarios.proofs.rows.drawn.Goals as goal
 

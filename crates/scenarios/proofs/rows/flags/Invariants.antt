@@ -1,5 +1,5 @@
 -- The loop goes from row to row inside the slice.
-use Rattle.std.proofs.Common.{◌≡◌, ◌-◌, ◌≤◌, length, refl, arith, length-set, rules}
+use Rattle.std.proofs.Common.{◌≡◌, ◌-◌, ◌≤◌, length}
 use Rattle.scenarios.proofs.rows.flags.Given as goal
 
 abbrev pub invariant-loop-q : goal.invariant-loop-q

@@ -1,5 +1,5 @@
 -- There is a row.
-use Rattle.std.proofs.Common.{arith, rules}
+use Rattle.std.proofs.Common.{arith}
 use Rattle.code.specs.Settings.{k_of}
 use Rattle.protocol.specs.Lengths.{row_count}
 use Rattle.scenarios.proofs.rows.touched.Goals as goal
