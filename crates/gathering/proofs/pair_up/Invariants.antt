@@ -1,12 +1,8 @@
 -- A turn puts one lane over the three vectors; what stands after it is as it came.
-use borrow.Author.Rules.{rules}
-use mathlib.Core.Path.{◌≡◌, refl, subst}
-use native.Mathlib.Omega.{arith}
-use Prim.Native.Nat.{ℕ, ◌-◌, ◌*◌, ◌≤◌, zero-le}
-use lib.ListN.{length, get_or}
+use Prim.Native.Nat.{◌-◌, ◌*◌, ◌≤◌}
 use Rattle.galois.specs.Byte.{◌⊕◌}
-use Rattle.gathering.specs.Pairs.{byte_of, paired_up}
-use Rattle.gathering.proofs.PairLaws.{Put, none_put, put_more, put_all}
+use Rattle.gathering.specs.Pairs.{byte_of}
+use Rattle.gathering.proofs.PairLaws.{Put}
 use Rattle.gathering.proofs.pair_up.Given as goal
 
 abbrev pub invariant-loop-v : goal.invariant-loop-v

@@ -1,9 +1,8 @@
 -- The bits at each turn are those of the bytes passed, so no half of such a byte is above theirs.
 use mathlib.Core.Path.{◌≡◌, refl, sym, ap, ◌∙◌, subst⁻¹}
-use mathlib.Core.List.{List}
 use native.Mathlib.Numerals.{add-one}
 use native.Mathlib.Omega.{arith}
-use Prim.Native.Nat.{ℕ, ◌-◌, ◌≤◌, zero-le}
+use Prim.Native.Nat.{ℕ, zero-le}
 use lib.Bits.{bit_or}
 use lib.ListN.{get_or}
 use Rattle.halves.specs.Halves.{Under, bits_of}

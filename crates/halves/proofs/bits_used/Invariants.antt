@@ -1,13 +1,7 @@
 -- The bits at each turn are those of the bytes passed, so no half of such a byte is above theirs.
-use mathlib.Core.Path.{◌≡◌, refl, sym, ap, ◌∙◌, subst⁻¹}
-use mathlib.Core.List.{List}
-use native.Mathlib.Numerals.{add-one}
-use native.Mathlib.Omega.{arith}
-use Prim.Native.Nat.{ℕ, ◌-◌, ◌≤◌, zero-le}
-use lib.Bits.{bit_or}
-use lib.ListN.{get_or}
-use Rattle.halves.specs.Halves.{Under, bits_of}
-use Rattle.halves.proofs.Planes.{under_bits}
+use mathlib.Core.Path.{◌≡◌}
+use Prim.Native.Nat.{◌-◌, ◌≤◌}
+use Rattle.halves.specs.Halves.{bits_of}
 use Rattle.halves.proofs.bits_used.Given as goal
 
 abbrev pub invariant-loop-j : goal.invariant-loop-j

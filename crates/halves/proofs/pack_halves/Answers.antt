@@ -1,10 +1,10 @@
 -- The loop fills the bytes from the front, each with the halves of two coefficients; those behind them are 0 from the start.
-use mathlib.Core.Path.{◌≡◌, refl}
+use mathlib.Core.Path.{refl}
 use mathlib.Core.List.{[]}
 use native.Mathlib.Nat.{not-suc-le-zero}
 use native.Mathlib.Omega.{arith}
-use Prim.Native.Nat.{ℕ, ◌+◌, ◌-◌, ◌*◌, ◌/◌, ◌%◌, ◌<◌, ◌≤◌, zero-le}
-use lib.ListN.{length, get_or, length-set}
+use Prim.Native.Nat.{ℕ, ◌+◌, ◌*◌, ◌/◌, ◌%◌, zero-le}
+use lib.ListN.{get_or, length-set}
 use Rattle.galois.proofs.ByIndex.{filled_more, kept_more}
 use Rattle.halves.proofs.Planes.{packed, zeros}
 use Rattle.halves.proofs.pack_halves.Goals as goal

@@ -1,12 +1,8 @@
 -- The loop fills the bytes from the front, each with the halves of two coefficients; those behind them are 0 from the start.
-use mathlib.Core.Path.{◌≡◌, refl}
+use mathlib.Core.Path.{◌≡◌}
 use mathlib.Core.List.{[]}
-use native.Mathlib.Nat.{not-suc-le-zero}
-use native.Mathlib.Omega.{arith}
-use Prim.Native.Nat.{ℕ, ◌+◌, ◌-◌, ◌*◌, ◌/◌, ◌%◌, ◌<◌, ◌≤◌, zero-le}
-use lib.ListN.{length, get_or, length-set}
-use Rattle.galois.proofs.ByIndex.{filled_more, kept_more}
-use Rattle.halves.proofs.Planes.{packed, zeros}
+use Prim.Native.Nat.{ℕ, ◌+◌, ◌-◌, ◌*◌, ◌/◌, ◌%◌, ◌<◌, ◌≤◌}
+use lib.ListN.{length, get_or}
 use Rattle.halves.proofs.pack_halves.Given as goal
 
 abbrev pub invariant-loop-j : goal.invariant-loop-j

@@ -1,6 +1,4 @@
 -- `narrow_product` adds the shifted terms and replaces the powers from z^4 on.
-use borrow.Author.Rules.{rules}
-use native.Mathlib.Omega.{arith}
 use Rattle.galois.proofs.NarrowField.{shifts_product}
 use Rattle.gf16.proofs.Gf16.narrow_product.Goals as goal
 

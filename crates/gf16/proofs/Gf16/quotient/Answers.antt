@@ -1,5 +1,4 @@
 -- `quotient` is the product with the reciprocal, and 0 where there is none.
-use borrow.Author.Rules.{rules}
 use mathlib.Core.Path.{◌∙◌, sym, ap}
 use Rattle.galois.proofs.Field.{by_none, by_element}
 use Rattle.galois.proofs.NarrowField.{narrows}

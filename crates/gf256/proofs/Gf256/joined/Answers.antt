@@ -1,9 +1,8 @@
 -- `joined` fits a byte, since each half is below 16 once it is widened.
-use borrow.Author.Rules.{rules}
 use mathlib.Core.Path.{ap₂}
 use Prim.Native.Nat.{ℕ, ◌+◌, ◌*◌}
 use native.Mathlib.Omega.{arith}
-use Rattle.galois.specs.Byte.{byte, widen}
+use Rattle.galois.specs.Byte.{byte}
 use Rattle.galois.proofs.Extension.{widen_below}
 use Rattle.gf256.proofs.Gf256.joined.Goals as goal
 

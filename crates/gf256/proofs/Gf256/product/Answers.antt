@@ -1,5 +1,4 @@
 -- `product` is 01's two-line rule, half by half.
-use borrow.Author.Rules.{rules}
 use Rattle.galois.specs.Byte.{eight}
 use Rattle.galois.proofs.Extension.{times_widened}
 use Rattle.gf256.proofs.Gf256.product.Goals as goal

@@ -1,5 +1,4 @@
 -- `reciprocal_in` is the entry of the table at the byte, and none where it has none.
-use borrow.Author.Rules.{rules}
 use mathlib.Core.Path.{◌≡◌, sym, ap, ◌∙◌}
 use native.Mathlib.Omega.{arith}
 use Rattle.galois.specs.Reciprocal.{Listed}

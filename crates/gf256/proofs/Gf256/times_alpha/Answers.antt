@@ -1,5 +1,4 @@
 -- `times_alpha` is the product with α.
-use borrow.Author.Rules.{rules}
 use Rattle.galois.specs.Byte.{alpha}
 use Rattle.gf256.proofs.Gf256.times_alpha.Goals as goal
 

@@ -1,11 +1,10 @@
 -- The loop fills the row from the front; the four entries added are those of the digits of c.
-use borrow.Author.Rules.{rules}
-use mathlib.Core.Path.{◌≡◌, refl, ap, ◌∙◌}
+use mathlib.Core.Path.{refl, ap, ◌∙◌}
 use mathlib.Core.List.{[]}
 use native.Mathlib.Nat.{not-suc-le-zero}
 use native.Mathlib.Omega.{arith}
-use Prim.Native.Nat.{ℕ, ◌+◌, ◌-◌, ◌/◌, ◌%◌, ◌<◌, ◌≤◌, zero-le}
-use lib.ListN.{length, get_or, length-set}
+use Prim.Native.Nat.{ℕ, ◌+◌, ◌/◌, ◌%◌, zero-le}
+use lib.ListN.{get_or, length-set}
 use Rattle.galois.specs.Byte.{◌⊕◌}
 use Rattle.galois.proofs.ByIndex.{is_table, filled_more}
 use Rattle.multiples.specs.Quarters.{digits_at, row_by}

@@ -1,12 +1,8 @@
 -- The loop fills the row from the front.
-use borrow.Author.Rules.{rules}
-use mathlib.Core.Path.{◌≡◌, refl}
-use native.Mathlib.Nat.{not-suc-le-zero}
-use native.Mathlib.Omega.{arith}
-use Prim.Native.Nat.{ℕ, ◌-◌, ◌<◌, ◌≤◌, zero-le}
-use lib.ListN.{length, get_or, length-set}
+use mathlib.Core.Path.{◌≡◌}
+use Prim.Native.Nat.{ℕ, ◌-◌, ◌<◌, ◌≤◌}
+use lib.ListN.{length, get_or}
 use Rattle.galois.specs.Byte.{◌⊗◌}
-use Rattle.galois.proofs.ByIndex.{is_table, filled_more}
 use Rattle.multiples.proofs.rows.row_times.Given as goal
 
 abbrev pub invariant-loop-j : goal.invariant-loop-j
