@@ -1,5 +1,4 @@
 -- A point above 15 makes the narrow sum 0; any other fits a byte.
-use borrow.Author.Rules.{rules}
 use native.Mathlib.Omega.{arith}
 use mathlib.Core.Path.{sym}
 use Rattle.galois.proofs.NarrowField.{plus_above}

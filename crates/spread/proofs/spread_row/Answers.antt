@@ -2,9 +2,8 @@
 use mathlib.Core.List.{[]}
 use mathlib.Core.Path.{◌≡◌, refl, ◌∙◌}
 use native.Mathlib.Omega.{arith}
-use Prim.Native.Nat.{◌+◌, ◌-◌, ◌%◌, ◌≤◌, zero-le}
-use borrow.Author.Rules.{rules}
-use lib.ListN.{length, get_or, length-set}
+use Prim.Native.Nat.{◌+◌, ◌-◌, ◌%◌, zero-le}
+use lib.ListN.{get_or, length-set}
 use lib.Seq.{get_or-set_same}
 use Rattle.galois.specs.Table.{table}
 use Rattle.code.specs.Matrix.{product, product_row}

@@ -1,14 +1,9 @@
 -- The products over no points are 1; each turn of the loop takes them over one point more, from one array into the other.
 use mathlib.Core.List.{[]}
-use mathlib.Core.Path.{◌≡◌, refl, ◌∙◌}
-use native.Mathlib.Omega.{arith}
-use Prim.Native.Nat.{◌+◌, ◌-◌, ◌%◌, ◌≤◌, zero-le}
-use borrow.Author.Rules.{rules}
-use lib.ListN.{length, get_or, length-set}
-use lib.Seq.{get_or-set_same}
-use Rattle.galois.specs.Table.{table}
-use Rattle.code.specs.Matrix.{product, product_row}
-use Rattle.code.proofs.Products.{row_step}
+use mathlib.Core.Path.{◌≡◌}
+use Prim.Native.Nat.{◌-◌, ◌%◌, ◌≤◌}
+use lib.ListN.{length, get_or}
+use Rattle.code.specs.Matrix.{product_row}
 use Rattle.spread.proofs.spread_row.Given as goal
 
 abbrev pub invariant-loop-m : goal.invariant-loop-m

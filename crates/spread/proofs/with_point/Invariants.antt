@@ -1,14 +1,9 @@
 -- The loop fills the products from the front.
-use mathlib.Core.Path.{◌≡◌, ap, ap₂, ◌∙◌}
-use native.Mathlib.Nat.{not-suc-le-zero}
-use native.Mathlib.Omega.{arith}
-use Prim.Native.Nat.{ℕ, ◌-◌, ◌<◌, ◌≤◌, zero-le}
-use borrow.Author.Rules.{rules}
-use lib.ListN.{length, get_or, length-set}
-use Rattle.galois.specs.Narrow.{◌⊠◌, narrow_quotient}
-use Rattle.galois.proofs.ByIndex.{is_table, filled_more}
+use mathlib.Core.Path.{◌≡◌}
+use Prim.Native.Nat.{ℕ, ◌-◌, ◌<◌, ◌≤◌}
+use lib.ListN.{length, get_or}
+use Rattle.galois.specs.Narrow.{◌⊠◌}
 use Rattle.code.specs.Matrix.{factor, gf16}
-use Rattle.code.proofs.Rows.{factor_once}
 use Rattle.spread.proofs.with_point.Given as goal
 
 abbrev pub invariant-loop-j : goal.invariant-loop-j

@@ -1,5 +1,4 @@
 -- A zero point is m below the row, and m + N from there on.
-use borrow.Author.Rules.{rules}
 use native.Mathlib.Omega.{arith}
 use mathlib.Core.Path.{sym}
 use Rattle.code.proofs.Products.{point_low, point_high}

@@ -1,14 +1,8 @@
 -- The loop adds the lanes from the front; what stands from v on is as it came.
-use borrow.Author.Rules.{rules}
-use mathlib.Core.Path.{◌≡◌, refl, ap, ◌∙◌}
-use mathlib.Core.Logic.{⊎_elim}
-use native.Mathlib.Nat.{not-suc-le-zero, le_refl, eq-or-lt_of_le, le_of_suc-le-suc}
-use native.Mathlib.Numerals.{add-one}
-use native.Mathlib.Omega.{arith}
-use Prim.Native.Nat.{ℕ, ◌-◌, ◌<◌, ◌≤◌, zero-le}
-use lib.ListN.{length, get_or, length-set}
+use mathlib.Core.Path.{◌≡◌}
+use Prim.Native.Nat.{ℕ, ◌-◌, ◌<◌, ◌≤◌}
+use lib.ListN.{length, get_or}
 use Rattle.galois.specs.Byte.{◌⊕◌}
-use Rattle.galois.proofs.ByIndex.{is_table, filled_more, kept_more}
 use Rattle.vectors.proofs.sums.add.Given as goal
 
 abbrev pub invariant-loop-v : goal.invariant-loop-v

@@ -1,15 +1,10 @@
 -- The loop adds the entry that two bits pick, pair by pair.
-use mathlib.Core.Path.{◌≡◌, sym, ap, ◌∙◌}
-use mathlib.Core.List.{List}
-use native.Mathlib.Omega.{arith}
-use Prim.Native.Nat.{ℕ, ◌+◌, ◌-◌, ◌*◌, ◌/◌, ◌^◌, ◌<◌, ◌≤◌, zero-le}
-use lib.Bits.{bit_and}
+use mathlib.Core.Path.{◌≡◌}
+use Prim.Native.Nat.{ℕ, ◌-◌, ◌*◌, ◌<◌, ◌≤◌}
 use lib.ListN.{length, get_or}
 use Rattle.galois.specs.Byte.{◌⊕◌}
 use Rattle.galois.specs.Sum.{sum}
-use Rattle.galois.proofs.ByIndex.{is_table, get_or-table, length-table}
-use Rattle.galois.proofs.Xor.{plus_assoc, plus_zero}
-use Rattle.halves.proofs.Planes.{lane, term_at, at_most_17, next_pair}
+use Rattle.halves.proofs.Planes.{term_at}
 use Rattle.vectors.proofs.sums.add_plane.Given as goal
 
 abbrev pub invariant-loop-j : goal.invariant-loop-j

@@ -1,5 +1,4 @@
 -- Four planes, the highest first, with a doubling before each but the first.
-use borrow.Author.Rules.{rules}
 use mathlib.Core.Path.{ap, ◌∙◌}
 use native.Mathlib.Omega.{arith}
 use Prim.Native.Nat.{ℕ, ◌*◌}

@@ -1,5 +1,4 @@
 -- Where no half is above 1 it is its bit 0, so one plane is the sum; else all four bits are taken.
-use borrow.Author.Rules.{rules}
 use Rattle.halves.proofs.Planes.{halves_small, one_plane}
 use Rattle.vectors.proofs.sums.by_upper.Goals as goal
 

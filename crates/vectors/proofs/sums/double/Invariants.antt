@@ -1,12 +1,8 @@
 -- The loop doubles the lanes from the front; what stands from v on is as it came.
-use borrow.Author.Rules.{rules}
-use mathlib.Core.Path.{◌≡◌, refl, ap, ◌∙◌}
-use native.Mathlib.Nat.{not-suc-le-zero, le_refl}
-use native.Mathlib.Omega.{arith}
-use Prim.Native.Nat.{ℕ, ◌-◌, ◌<◌, ◌≤◌, zero-le}
-use lib.ListN.{length, get_or, length-set}
+use mathlib.Core.Path.{◌≡◌}
+use Prim.Native.Nat.{ℕ, ◌-◌, ◌<◌, ◌≤◌}
+use lib.ListN.{length, get_or}
 use Rattle.galois.specs.Byte.{◌⊗◌}
-use Rattle.galois.proofs.ByIndex.{is_table, filled_more, kept_more}
 use Rattle.vectors.proofs.sums.double.Given as goal
 
 abbrev pub invariant-loop-v : goal.invariant-loop-v

@@ -1,5 +1,4 @@
 -- The sum, and that the second is a byte.
-use borrow.Author.Rules.{rules}
 use Rattle.vectors.proofs.sums.plus.Goals as goal
 
 pub returns : goal.returns

@@ -1,11 +1,10 @@
 -- The loop fills the lanes from the front with the sum by the low halves and α times that by the high halves.
-use borrow.Author.Rules.{rules}
-use mathlib.Core.Path.{◌≡◌, refl, ap, ap₂, ◌∙◌}
+use mathlib.Core.Path.{refl, ap, ap₂, ◌∙◌}
 use mathlib.Core.List.{[]}
 use native.Mathlib.Nat.{not-suc-le-zero}
 use native.Mathlib.Omega.{arith}
-use Prim.Native.Nat.{ℕ, ◌-◌, ◌*◌, ◌<◌, ◌≤◌, zero-le}
-use lib.ListN.{length, get_or, length-set}
+use Prim.Native.Nat.{ℕ, ◌*◌, zero-le}
+use lib.ListN.{get_or, length-set}
 use Rattle.galois.specs.Byte.{◌⊕◌, ◌⊗◌, alpha}
 use Rattle.galois.specs.Sum.{sum}
 use Rattle.galois.proofs.ByIndex.{is_table, filled_more}
@@ -20,13 +19,12 @@ loop-v-init c =
     (zero-le, refl, λ i h. absurd (not-suc-le-zero h))
 
 pub loop-v-preserved : goal.loop-v-preserved
-loop-v-preserved c =
-    (
-      omega arith,
-      simp length-set c.loop-v.invariant.1,
-      filled_more (λ i. get_or c.by_nibble-low.result i 0 ⊕ alpha ⊗ get_or c.by_upper-high.result i 0) 0 c.loop-v.out c.loop-v.v _ (omega arith)
-          (c.sum.ensures ∙ ap (λ (x : ℕ). get_or c.by_nibble-low.result c.loop-v.v 0 ⊕ x) c.times_alpha.ensures) c.loop-v.invariant.2,
-    )
+loop-v-preserved c = (
+  omega arith,
+  simp length-set c.loop-v.invariant.1,
+  filled_more (λ i. get_or c.by_nibble-low.result i 0 ⊕ alpha ⊗ get_or c.by_upper-high.result i 0) 0 c.loop-v.out c.loop-v.v _ (omega arith)
+      (c.sum.ensures ∙ ap (λ (x : ℕ). get_or c.by_nibble-low.result c.loop-v.v 0 ⊕ x) c.times_alpha.ensures) c.loop-v.invariant.2,
+)
 
 pub returns : goal.returns
 unfolding halves_sum weighted_of

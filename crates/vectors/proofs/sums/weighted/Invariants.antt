@@ -1,18 +1,8 @@
 -- The loop fills the lanes from the front with the sum by the low halves and α times that by the high halves.
-use borrow.Author.Rules.{rules}
-use mathlib.Core.Path.{◌≡◌, refl, ap, ap₂, ◌∙◌}
-use mathlib.Core.List.{[]}
-use native.Mathlib.Nat.{not-suc-le-zero}
-use native.Mathlib.Omega.{arith}
-use Prim.Native.Nat.{ℕ, ◌-◌, ◌*◌, ◌<◌, ◌≤◌, zero-le}
-use lib.ListN.{length, get_or, length-set}
+use mathlib.Core.Path.{◌≡◌}
+use Prim.Native.Nat.{ℕ, ◌-◌, ◌<◌, ◌≤◌}
+use lib.ListN.{length, get_or}
 use Rattle.galois.specs.Byte.{◌⊕◌, ◌⊗◌, alpha}
-use Rattle.galois.specs.Sum.{sum}
-use Rattle.galois.proofs.ByIndex.{is_table, filled_more}
-use Rattle.gathering.specs.Pairs.{vector_of}
-use Rattle.vectors.specs.Weighted.{weighted_of}
-use Rattle.halves.specs.Halves.{half_of, halves_sum}
-use Rattle.halves.proofs.Planes.{lane_of, by_both_halves}
 use Rattle.vectors.proofs.sums.weighted.Given as goal
 
 abbrev pub invariant-loop-v : goal.invariant-loop-v

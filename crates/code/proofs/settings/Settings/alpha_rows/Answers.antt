@@ -1,5 +1,4 @@
 -- d is B - N + 1, cut off at 1.
-use borrow.Author.Rules.{rules}
 use native.Mathlib.Omega.{arith}
 use Rattle.code.specs.Settings.{d_of}
 use Rattle.code.proofs.settings.Settings.alpha_rows.Goals as goal

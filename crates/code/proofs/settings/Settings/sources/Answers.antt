@@ -1,5 +1,4 @@
 -- k is T - N + 1, cut off at 1.
-use borrow.Author.Rules.{rules}
 use native.Mathlib.Omega.{arith}
 use Rattle.code.specs.Settings.{k_of}
 use Rattle.code.proofs.settings.Settings.sources.Goals as goal

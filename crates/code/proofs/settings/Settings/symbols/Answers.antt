@@ -1,5 +1,4 @@
 -- n is k + B; it fits, since k is at most 256.
-use borrow.Author.Rules.{rules}
 use native.Mathlib.Omega.{arith}
 use Rattle.code.specs.Settings.{delay_of, k_of, n_of}
 use Rattle.code.proofs.settings.Settings.symbols.Goals as goal
