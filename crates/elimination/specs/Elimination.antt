@@ -1,6 +1,6 @@
 -- Elimination of the systematic form over the known positions, as lists, and what it says of a symbol. The known sources are pivots
 -- from the start, so only the parity positions are worked through.
-use Rattle.std.specs.Prelude.{◌≡◌, Bool, true, false, cond, not, ◌&&◌, List, [], ◌∷◌, ℕ, zero, suc, ◌+◌, ◌<◌, eqb, ltb, get_or, set}
+use Rattle.std.specs.Prelude.{◌≡◌, Bool, true, false, cond, not, ◌&&◌, List, [], ℕ, zero, suc, ◌+◌, ◌<◌, eqb, ltb, get_or, set}
 use Rattle.galois.specs.Bounded.{any}
 use Rattle.galois.specs.Byte.{◌⊕◌, ◌⊗◌, quotient}
 use Rattle.galois.specs.Sum.{sum}

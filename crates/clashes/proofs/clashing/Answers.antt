@@ -1,15 +1,13 @@
 -- The sources, which have no flags, and what the loop has passed are no known positions at which a lane clashes.
 use borrow.Author.Count.{below_more}
-use borrow.Author.Rules.{rules}
 use mathlib.Core.Path.{sym, ◌∙◌, subst, subst⁻¹}
 use mathlib.Core.Bool.{Bool, ◌&&◌}
-use mathlib.Core.Logic.{⊎_elim}
 use native.Mathlib.Omega.{arith}
-use Prim.Native.Nat.{ℕ, ◌-◌, ◌<◌}
+use Prim.Native.Nat.{ℕ}
 use lib.Dec.{T}
 use Rattle.galois.proofs.Cases.{and_left, and_right, both_pass, any-one, any_none}
 use Rattle.code.specs.Settings.{n_of}
-use Rattle.code.proofs.Shape.{Shape, shape}
+use Rattle.code.proofs.Shape.{shape}
 use Rattle.elimination.specs.Elimination.{known_in}
 use Rattle.elimination.proofs.Terms.{known_on, known_off}
 use Rattle.clashes.specs.Clashes.{ParityOnly, sum_clash, sums_clash}

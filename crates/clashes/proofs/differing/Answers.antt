@@ -1,10 +1,7 @@
 -- The loop has passed no row that differs.
 use borrow.Author.Count.{below_none, below_more}
-use borrow.Author.Rules.{rules}
 use mathlib.Core.Path.{sym}
-use mathlib.Core.Logic.{⊎_elim}
 use native.Mathlib.Omega.{arith}
-use Prim.Native.Nat.{ℕ, ◌-◌, ◌<◌, ◌≤◌}
 use lib.Dec.{T}
 use Rattle.galois.proofs.Cases.{any-one, any_none}
 use Rattle.code.specs.Settings.{k_of}

@@ -1,13 +1,11 @@
 -- The bits of all places passed are 0 exactly if none of them differs.
-use mathlib.Core.Path.{◌≡◌, refl, ap, ◌∙◌}
-use mathlib.Core.Bool.{Bool, not, ◌||◌}
-use native.Mathlib.Omega.{arith}
-use Prim.Native.Nat.{ℕ, ◌-◌, ◌≤◌}
+use mathlib.Core.Path.{◌≡◌}
+use mathlib.Core.Bool.{not}
+use Prim.Native.Nat.{◌-◌, ◌≤◌}
 use lib.Dec.{eqb}
 use lib.ListN.{length, get_or}
 use Rattle.galois.specs.Bounded.{any}
-use Rattle.galois.specs.Byte.{◌⊕◌}
-use Rattle.clashes.proofs.Unlike.{unlike, or_unlike, any-more}
+use Rattle.clashes.proofs.Unlike.{unlike}
 use Rattle.clashes.proofs.unequal.Given as goal
 
 abbrev pub invariant-loop-v : goal.invariant-loop-v

@@ -35,8 +35,7 @@ returns-then-r-gt15 c =
 
 pub clear_column-requires : goal.clear_column-requires
 clear_column-requires c =
-    let x = both c.args.rows.now c.args.roles.now in
-    (
+    let x = both c.args.rows.now c.args.roles.now in (
       omega (arith, c.pivot_row-r.ensures, pivot_below x c.args.p c.args.k (omega (arith, c.pivot_row-r.ensures))),
       c.requires.0,
       c.requires.1,

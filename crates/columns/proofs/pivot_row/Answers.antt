@@ -1,10 +1,9 @@
 -- The search from row 0 is the search from row r, as long as no row before r can be the pivot.
 use mathlib.Core.Path.{◌≡◌, sym, ap, ◌∙◌}
-use mathlib.Core.Logic.{⊎_elim}
 use native.Mathlib.Nat.{sub-zero}
 use native.Mathlib.Numerals.{add-one}
 use native.Mathlib.Omega.{arith}
-use Prim.Native.Nat.{ℕ, suc, ◌+◌, ◌-◌, ◌≤◌, zero-le}
+use Prim.Native.Nat.{ℕ, suc, ◌+◌, ◌-◌, zero-le}
 use Rattle.elimination.specs.Elimination.{cell, pivot_from}
 use Rattle.elimination.proofs.Terms.{both}
 use Rattle.columns.proofs.Search.{pivot_here, pivot_taken, pivot_zero}
@@ -30,7 +29,7 @@ loop-r-preserved c =
     let x = both c.args.rows.now c.args.roles.now in
     let left : c.args.k - c.loop-r.r ≡ suc (c.args.k - (c.loop-r.r + 1)) = omega arith in
     let step : pivot_from x c.args.p c.loop-r.r (suc (c.args.k - (c.loop-r.r + 1)))
-        ≡ pivot_from x c.args.p (suc c.loop-r.r) (c.args.k - (c.loop-r.r + 1)) =
+    ≡ pivot_from x c.args.p (suc c.loop-r.r) (c.args.k - (c.loop-r.r + 1)) =
     elim c.if-roles-r-eq16.branch [
       | then-roles-r-eq16+else-rows-r-ne0 w ↦ pivot_zero x c.args.p c.loop-r.r (omega arith) (c.args.k - (c.loop-r.r + 1)) (omega arith)
       | else-roles-r-eq16 w ↦ pivot_taken x c.args.p c.loop-r.r (omega arith) (c.args.k - (c.loop-r.r + 1)) (λ same. omega arith)

@@ -1,13 +1,8 @@
 -- The search from row 0 is the search from row r, as long as no row before r can be the pivot.
-use mathlib.Core.Path.{◌≡◌, sym, ap, ◌∙◌}
-use mathlib.Core.Logic.{⊎_elim}
-use native.Mathlib.Nat.{sub-zero}
-use native.Mathlib.Numerals.{add-one}
-use native.Mathlib.Omega.{arith}
-use Prim.Native.Nat.{ℕ, suc, ◌+◌, ◌-◌, ◌≤◌, zero-le}
-use Rattle.elimination.specs.Elimination.{cell, pivot_from}
+use mathlib.Core.Path.{◌≡◌}
+use Prim.Native.Nat.{◌-◌, ◌≤◌}
+use Rattle.elimination.specs.Elimination.{pivot_from}
 use Rattle.elimination.proofs.Terms.{both}
-use Rattle.columns.proofs.Search.{pivot_here, pivot_taken, pivot_zero}
 use Rattle.columns.proofs.pivot_row.Given as goal
 
 abbrev pub invariant-loop-r : goal.invariant-loop-r

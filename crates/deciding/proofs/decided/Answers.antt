@@ -6,10 +6,10 @@ use native.Mathlib.Nat.{zero-mul, suc-mul, mul-le-mul, mul-le-mul_right, le-add_
 use native.Mathlib.Numerals.{add-one}
 use native.Mathlib.Omega.{arith}
 use borrow.Rule.Slice.PartMut.{same_len_mid}
-use lib.ListN.{length, get_or, take, drop, replicate, length-take, length-drop}
+use lib.ListN.{length, take, drop, replicate, length-take, length-drop}
 use Rattle.galois.specs.Bounded.{any}
 use Rattle.code.specs.Settings.{k_of}
-use Rattle.code.proofs.Shape.{Shape, shape}
+use Rattle.code.proofs.Shape.{shape}
 use Rattle.galois.proofs.ByIndex.{is_table}
 use Rattle.protocol.specs.Lengths.{message_len}
 use Rattle.protocol.specs.Verdict.{shared_bytes, buffer_of}
@@ -68,8 +68,7 @@ write_symbol-grade-requires c =
       ends,
       length-take (first + c.args.s.lanes - first) (drop first c.loop-i.message),
       length-drop first c.loop-i.message,
-    ) in
-    (
+    ) in (
       c.requires.0,
       c.requires.1,
       omega arith,

@@ -1,6 +1,5 @@
 -- The rows are done from the last source symbol down: at i, rows i and up are the systematic form's.
 use mathlib.Core.Path.{◌≡◌, refl, sym, ◌∙◌, subst⁻¹}
-use mathlib.Core.List.{[]}
 use mathlib.Core.Logic.{⊎_elim}
 use lib.Dec.{T}
 use native.Mathlib.Omega.{arith}

@@ -1,6 +1,4 @@
 -- Each way out is one test of the header.
-use borrow.Author.Rules.{rules}
-use borrow.Author.Tests.{not-true, not-false}
 use mathlib.Core.Path.{◌≡◌, sym, ◌∙◌}
 use mathlib.Core.Bool.{true}
 use Rattle.protocol.specs.Frame.{mark}

@@ -1,5 +1,4 @@
 -- The five bytes, each read at its place.
-use borrow.Author.Rules.{rules}
 use mathlib.Core.Path.{refl}
 use Rattle.frames.specs.Fields.{settings_at}
 use Rattle.frames.proofs.settings_at.Goals as goal

@@ -1,5 +1,4 @@
 -- The four bytes, each read at its place.
-use borrow.Author.Rules.{rules}
 use Rattle.frames.specs.Fields.{slot_at}
 use Rattle.frames.proofs.slot_at.Goals as goal
 

@@ -1,6 +1,5 @@
 -- The loop fills the bytes from the front, each with the halves of two coefficients; those behind them are 0 from the start.
 use mathlib.Core.Path.{◌≡◌}
-use mathlib.Core.List.{[]}
 use Prim.Native.Nat.{ℕ, ◌+◌, ◌-◌, ◌*◌, ◌/◌, ◌%◌, ◌<◌, ◌≤◌}
 use lib.ListN.{length, get_or}
 use Rattle.halves.proofs.pack_halves.Given as goal

@@ -1,7 +1,5 @@
 -- Each way out is one case of the answer.
-use borrow.Author.Rules.{rules}
 use mathlib.Core.Path.{◌≡◌, sym, ap, ◌∙◌, subst⁻¹}
-use mathlib.Core.List.{List}
 use Prim.Native.Nat.{ℕ, ◌<◌}
 use native.Mathlib.Omega.{arith}
 use lib.ListN.{get_or}
@@ -9,7 +7,6 @@ use Rattle.gathering.specs.Pairs.{pairs_of, Paired}
 use Rattle.gathering.proofs.PairLaws.{blank_wide}
 use Rattle.code.specs.Settings.{k_of}
 use Rattle.code.proofs.Shape.{Shape, shape}
-use Rattle.elimination.specs.Elimination.{Reduced}
 use Rattle.elimination.proofs.PivotSearch.{get_d_default}
 use Rattle.elimination.proofs.Terms.{both}
 use Rattle.shares.proofs.Shares.{all-paired, all-shared, Shared}

@@ -1,9 +1,8 @@
 -- There is room for the longest line, so each filling that is not the last leaves fewer steps.
-use borrow.Author.Rules.{rules}
 use mathlib.Core.Path.{◌≡◌, refl, sym, ap, ◌∙◌, subst}
 use mathlib.Core.List.{List}
 use native.Mathlib.Omega.{arith}
-use Prim.Native.Nat.{ℕ, ◌+◌, ◌*◌, ◌≤◌, ◌<◌}
+use Prim.Native.Nat.{ℕ, ◌<◌}
 use lib.ListN.{length}
 use Rattle.lines.specs.Lent.{longest}
 use Rattle.reporting.specs.Outcomes.{Outcome, outcome}

@@ -1,15 +1,13 @@
 -- While there is room a step prints behind what is printed so far; each leaves fewer steps.
-use borrow.Author.Rules.{rules}
 use borrow.Author.Tests.{leb-true, leb-false}
 use mathlib.Core.Path.{◌≡◌, refl, sym, ap, ◌∙◌, subst}
-use mathlib.Core.List.{List}
 use native.Mathlib.Omega.{arith}
-use Prim.Native.Nat.{ℕ, ◌+◌, ◌-◌, ◌*◌, ◌≤◌, ◌<◌}
+use Prim.Native.Nat.{◌+◌, ◌-◌, ◌*◌, ◌≤◌, ◌<◌}
 use lib.ListN.{length}
 use Rattle.lines.specs.Lent.{longest}
 use Rattle.steps.specs.Steps.{act_of}
 use Rattle.reporting.specs.Outcomes.{Outcome, outcome, printed_on}
-use Rattle.player.proofs.FillLaws.{part, part_length, Going, goes, full, fitting, onward, ended}
+use Rattle.player.proofs.FillLaws.{part, part_length, goes, full, fitting, onward, ended}
 use Rattle.player.proofs.StepsLeft.{steps_left, fewer}
 use Rattle.player.proofs.fill.Goals as goal
 
@@ -64,8 +62,7 @@ pub loop-rows-preserved : goal.loop-rows-preserved
 unfolding longest
 loop-rows-preserved c =
     let roomy : longest c.loop-rows.message ≤ length c.loop-rows.out - c.loop-rows.at = leb-true (18 + 2 * length c.loop-rows.message) (length c.loop-rows.out - c.loop-rows.at) (sym c.has_room.ensures ∙ c.loop-rows-test.true) in
-    let stepped : (outcome c.step-stepped.result c.step-stepped.new.rows c.step-stepped.new.message c.step-stepped.new.line) ≡ printed_on (part c.loop-rows.out c.loop-rows.at) (act_of c.loop-rows.q (c.args.recording.now) c.loop-rows.rows c.loop-rows.message) = c.step-stepped.ensures in
-    (
+    let stepped : (outcome c.step-stepped.result c.step-stepped.new.rows c.step-stepped.new.message c.step-stepped.new.line) ≡ printed_on (part c.loop-rows.out c.loop-rows.at) (act_of c.loop-rows.q (c.args.recording.now) c.loop-rows.rows c.loop-rows.message) = c.step-stepped.ensures in (
       onward _ _ _ _ _ c.loop-rows.q c.loop-rows.at c.loop-rows.rows c.loop-rows.message c.loop-rows.out c.loop-rows.invariant.0 (roomy) ((outcome c.step-stepped.result c.step-stepped.new.rows c.step-stepped.new.message c.step-stepped.new.line)) (stepped)
           c.step-stepped.auto.line c.if-stepped.false,
       c.step-stepped.auto.rows ∙ c.loop-rows.invariant.1,

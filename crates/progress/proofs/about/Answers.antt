@@ -1,5 +1,4 @@
 -- Below the delay there is no message yet.
-use borrow.Author.Rules.{rules}
 use native.Mathlib.Omega.{arith}
 use Rattle.protocol.specs.Calls.{message_due}
 use Rattle.progress.proofs.about.Goals as goal

@@ -1,5 +1,4 @@
 -- There is room, so the line of `stop` is written.
-use borrow.Author.Rules.{rules}
 use mathlib.Core.Path.{refl}
 use native.Mathlib.Omega.{arith}
 use Rattle.protocol.specs.Causes.{number_of}

@@ -1,14 +1,12 @@
 -- The loop does one parity position a turn, and clears its flag where it becomes a pivot.
-use borrow.Author.Rules.{rules}
-use borrow.Author.Tests.{not-true, not-false}
 use mathlib.Core.Path.{◌≡◌, refl, sym, ap, ap₂, ◌∙◌, subst⁻¹}
 use mathlib.Core.Bool.{true, false}
 use mathlib.Core.List.{List}
 use native.Mathlib.Omega.{arith}
-use Prim.Native.Nat.{ℕ, ◌-◌, ◌≤◌}
+use Prim.Native.Nat.{ℕ, ◌-◌}
 use lib.Dec.{T, eqb}
 use lib.ListN.{length, get_or, set}
-use Rattle.code.specs.Settings.{accepted, k_of, n_of}
+use Rattle.code.specs.Settings.{accepted, k_of}
 use Rattle.code.proofs.Shape.{Shape, shape}
 use Rattle.elimination.specs.Elimination.{Reduced, column_step, columns, known_in, left_flag, left_after}
 use Rattle.elimination.proofs.Reductions.{reduced_accepted, sixteen_roles}
@@ -36,14 +34,13 @@ loop-p-init c =
     (h, omega arith, omega arith, rw none refl, rw none refl)
 
 pub column_step-requires : goal.column_step-requires
-column_step-requires c =
-    (
-      omega arith,
-      omega arith,
-      ap (λ (x : Reduced). length x.roles) c.loop-p.invariant.3
-          ∙ sixteen_roles c.args.s c.loop-p.invariant.0 (known_in c.args.s c.args.flags.now) (both c.args.matrix c.args.roles.now) c.requires.0 (c.loop-p.p - k_of c.args.s),
-      c.requires.1,
-    )
+column_step-requires c = (
+  omega arith,
+  omega arith,
+  ap (λ (x : Reduced). length x.roles) c.loop-p.invariant.3
+      ∙ sixteen_roles c.args.s c.loop-p.invariant.0 (known_in c.args.s c.args.flags.now) (both c.args.matrix c.args.roles.now) c.requires.0 (c.loop-p.p - k_of c.args.s),
+  c.requires.1,
+)
 
 pub loop-p-preserved : goal.loop-p-preserved
 loop-p-preserved c =

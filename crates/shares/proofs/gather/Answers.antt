@@ -1,14 +1,13 @@
 -- A turn puts one pair of rows' vectors.
-use borrow.Author.Rules.{rules}
 use mathlib.Core.Path.{◌≡◌, refl, ap, ◌∙◌, subst⁻¹}
 use native.Mathlib.Omega.{arith}
-use Prim.Native.Nat.{ℕ, ◌+◌, ◌-◌, ◌≤◌}
+use Prim.Native.Nat.{ℕ, ◌+◌, ◌≤◌}
 use lib.ListN.{length}
 use Rattle.gathering.specs.Pairs.{pairs_of, Wide, gathered_of}
 use Rattle.gathering.specs.declared.Source.{Source}
 use Rattle.gathering.proofs.Gathered.{gathered_more, gathered_wide}
 use Rattle.code.specs.Settings.{k_of}
-use Rattle.code.proofs.Shape.{Shape, shape}
+use Rattle.code.proofs.Shape.{shape}
 use Rattle.shares.specs.Shares.{role_of, source_of}
 use Rattle.shares.proofs.Shares.{source_held}
 use Rattle.shares.proofs.gather.Goals as goal
@@ -51,8 +50,7 @@ pair_up-requires c =
     (source_held c.args.s c.args.places.now (role_of c.args.s c.args.roles.now r) c.args.bytes.now c.loop-j.invariant.0 c.requires.0) in
     let wide : Wide c.loop-j.pairs = subst⁻¹ Wide c.loop-j.invariant.2
     (gathered_wide c.args.bytes.now c.args.s.lanes (source_of c.args.s c.args.roles.now c.args.places.now) c.args.pairs.now c.loop-j.invariant.0.lanes_few
-    c.requires.2 c.loop-j.j (omega arith)) in
-    (
+    c.requires.2 c.loop-j.j (omega arith)) in (
       omega arith,
       c.loop-j.invariant.0.lanes_few,
       within c.source-first.result _ c.source-first.ensures,
@@ -65,14 +63,13 @@ overflow_add-j-in-loop-j c =
     omega arith
 
 pub loop-j-preserved : goal.loop-j-preserved
-loop-j-preserved c =
-    (
-      c.loop-j.invariant.0,
-      omega arith,
-      c.pair_up.ensures
-          ∙ gathered_more c.args.bytes.now c.args.s.lanes (source_of c.args.s c.args.roles.now c.args.places.now) c.args.pairs.now c.loop-j.j c.loop-j.pairs
-          c.source-first.result c.source-second.result c.loop-j.invariant.2 c.source-first.ensures c.source-second.ensures,
-    )
+loop-j-preserved c = (
+  c.loop-j.invariant.0,
+  omega arith,
+  c.pair_up.ensures
+      ∙ gathered_more c.args.bytes.now c.args.s.lanes (source_of c.args.s c.args.roles.now c.args.places.now) c.args.pairs.now c.loop-j.j c.loop-j.pairs
+      c.source-first.result c.source-second.result c.loop-j.invariant.2 c.source-first.ensures c.source-second.ensures,
+)
 
 pub returns : goal.returns
 returns c =

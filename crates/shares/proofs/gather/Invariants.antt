@@ -1,16 +1,9 @@
 -- A turn puts one pair of rows' vectors.
-use borrow.Author.Rules.{rules}
-use mathlib.Core.Path.{◌≡◌, refl, ap, ◌∙◌, subst⁻¹}
-use native.Mathlib.Omega.{arith}
-use Prim.Native.Nat.{ℕ, ◌+◌, ◌-◌, ◌≤◌}
-use lib.ListN.{length}
-use Rattle.gathering.specs.Pairs.{pairs_of, Wide, gathered_of}
-use Rattle.gathering.specs.declared.Source.{Source}
-use Rattle.gathering.proofs.Gathered.{gathered_more, gathered_wide}
-use Rattle.code.specs.Settings.{k_of}
-use Rattle.code.proofs.Shape.{Shape, shape}
-use Rattle.shares.specs.Shares.{role_of, source_of}
-use Rattle.shares.proofs.Shares.{source_held}
+use mathlib.Core.Path.{◌≡◌}
+use Prim.Native.Nat.{◌-◌, ◌≤◌}
+use Rattle.gathering.specs.Pairs.{gathered_of}
+use Rattle.code.proofs.Shape.{Shape}
+use Rattle.shares.specs.Shares.{source_of}
 use Rattle.shares.proofs.gather.Given as goal
 
 abbrev pub invariant-loop-j : goal.invariant-loop-j

@@ -1,5 +1,4 @@
 -- The opening's rows and receiver, and a message buffer that is cleared.
-use borrow.Author.Rules.{rules}
 use mathlib.Core.Path.{ap₂}
 use mathlib.Core.List.{List}
 use Prim.Native.Nat.{ℕ}

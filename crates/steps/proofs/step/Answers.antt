@@ -1,8 +1,7 @@
 -- Each way out is one case of what stands at the player's offset.
-use borrow.Author.Rules.{rules}
 use mathlib.Core.Path.{◌≡◌, sym, ap, ◌∙◌}
 use native.Mathlib.Omega.{arith}
-use Prim.Native.Nat.{ℕ, ◌+◌, ◌-◌, ◌≤◌, ◌<◌}
+use Prim.Native.Nat.{◌+◌, ◌-◌, ◌≤◌, ◌<◌}
 use lib.ListN.{length, drop, length-take, length-drop}
 use Rattle.protocol.specs.Lengths.{frame_len}
 use Rattle.protocol.specs.declared.Cause.TheVariants.{BadLength}
@@ -47,8 +46,7 @@ at_frame-requires c =
     let found : c.next_frame.result ≡ found_at c.args.recording.now c.args.p.offset (frame_len c.args.p.receiver.settings) = c.next_frame.ensures ∙ ap (found_at c.args.recording.now c.args.p.offset) c.frame_len.ensures in
     let said : let size = frame_len c.args.p.receiver.settings in
     (c.in-Frame.start ≡ c.args.p.offset) × (c.in-Frame.end ≡ c.args.p.offset + size) × (c.args.p.offset + size ≤ length c.args.recording.now) × (0 < size) = frame_says c.args.recording.now c.args.p.offset (frame_len c.args.p.receiver.settings) c.in-Frame.start c.in-Frame.end
-    (sym (found) ∙ c.in-Frame.is) in
-    (
+    (sym (found) ∙ c.in-Frame.is) in (
       omega (arith, said, length-take (c.in-Frame.end - c.in-Frame.start) (drop c.in-Frame.start c.args.recording.now), length-drop c.in-Frame.start c.args.recording.now),
       c.requires,
     )

@@ -1,5 +1,4 @@
 -- Rows of another size decide, else the message.
-use borrow.Author.Rules.{rules}
 use borrow.Author.Tests.{eq-eqb, ne_eqb}
 use mathlib.Core.Path.{ap}
 use Prim.Native.Nat.{ℕ}

@@ -1,6 +1,4 @@
 -- n × L, which fits.
-use mathlib.Core.Path.{ap}
-use Prim.Native.Nat.{ℕ, ◌*◌}
 use borrow.Author.Rules.{rules}
 use native.Mathlib.Omega.{arith}
 use Rattle.protocol.specs.Lengths.{body_len}

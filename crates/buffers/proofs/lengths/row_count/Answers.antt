@@ -1,5 +1,4 @@
 -- k + T, which fits.
-use borrow.Author.Rules.{rules}
 use native.Mathlib.Omega.{arith}
 use Rattle.code.specs.Settings.{delay_of, k_of}
 use Rattle.protocol.specs.Lengths.{row_count}

@@ -1,7 +1,7 @@
 -- n - 1 messages, which fit.
 use borrow.Author.Rules.{rules}
 use native.Mathlib.Omega.{arith}
-use Rattle.code.specs.Settings.{delay_of, k_of, n_of}
+use Rattle.code.specs.Settings.{k_of, n_of}
 use Rattle.protocol.specs.Lengths.{sender_len}
 use Rattle.protocol.proofs.LengthBounds.{sender_small}
 use Rattle.buffers.proofs.lengths.sender_len.Goals as goal

@@ -1,10 +1,10 @@
 -- The loop has found no difference so far.
-use mathlib.Core.Path.{◌≡◌, refl, sym, ap, ◌∙◌, subst, subst⁻¹}
+use mathlib.Core.Path.{◌≡◌, sym, subst, subst⁻¹}
 use mathlib.Core.Bool.{Bool}
 use mathlib.Core.Logic.{⊎_elim}
-use native.Mathlib.Nat.{not-suc-le-zero, eq-or-lt_of_le, le_refl}
+use native.Mathlib.Nat.{eq-or-lt_of_le, le_refl}
 use native.Mathlib.Omega.{arith}
-use Prim.Native.Nat.{ℕ, ◌+◌, ◌-◌, ◌<◌, ◌≤◌}
+use Prim.Native.Nat.{ℕ, ◌+◌, ◌-◌, ◌≤◌}
 use lib.Dec.{T, eqb, eqb→eq}
 use borrow.Author.Tests.{eq-eqb}
 use lib.ListN.{get_or}
@@ -29,17 +29,16 @@ returns-then-frame-i c =
     omega arith))
 
 pub loop-i-preserved : goal.loop-i-preserved
-loop-i-preserved c =
-    (
-      omega arith,
-      omega arith,
-      λ j h.
-          let upto : c.args.first + j ≤ c.loop-i.i = omega arith in
-          ⊎_elim
-          (λ same. let here : c.loop-i.i ≡ c.args.first + j = omega arith in
-          subst (λ (k : ℕ). get_or c.args.frame.now k 0 ≡ get_or c.args.head k 0) here (omega arith))
-          (λ less. c.loop-i.invariant.2 j less) (eq-or-lt_of_le upto),
-    )
+loop-i-preserved c = (
+  omega arith,
+  omega arith,
+  λ j h.
+      let upto : c.args.first + j ≤ c.loop-i.i = omega arith in
+      ⊎_elim
+      (λ same. let here : c.loop-i.i ≡ c.args.first + j = omega arith in
+      subst (λ (k : ℕ). get_or c.args.frame.now k 0 ≡ get_or c.args.head k 0) here (omega arith))
+      (λ less. c.loop-i.invariant.2 j less) (eq-or-lt_of_le upto),
+)
 
 pub returns : goal.returns
 returns c =

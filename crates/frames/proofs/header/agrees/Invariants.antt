@@ -1,15 +1,7 @@
 -- The loop has found no difference so far.
-use mathlib.Core.Path.{◌≡◌, refl, sym, ap, ◌∙◌, subst, subst⁻¹}
-use mathlib.Core.Bool.{Bool}
-use mathlib.Core.Logic.{⊎_elim}
-use native.Mathlib.Nat.{not-suc-le-zero, eq-or-lt_of_le, le_refl}
-use native.Mathlib.Omega.{arith}
+use mathlib.Core.Path.{◌≡◌}
 use Prim.Native.Nat.{ℕ, ◌+◌, ◌-◌, ◌<◌, ◌≤◌}
-use lib.Dec.{T, eqb, eqb→eq}
-use borrow.Author.Tests.{eq-eqb}
 use lib.ListN.{get_or}
-use Rattle.galois.specs.Bounded.{every}
-use Rattle.galois.proofs.Cases.{is_true, is_false, at, all-below}
 use Rattle.frames.proofs.header.agrees.Given as goal
 
 abbrev pub invariant-loop-i : goal.invariant-loop-i

@@ -1,5 +1,4 @@
 -- The array is the header, byte by byte.
-use borrow.Author.Rules.{rules}
 use mathlib.Core.Path.{refl}
 use Rattle.protocol.specs.Frame.{mark, five, slot_bytes, header}
 use Rattle.frames.proofs.header.header_bytes.Goals as goal

@@ -1,11 +1,9 @@
 -- The loop fills the matrix row by row.
-use borrow.Author.Rules.{rules}
-use mathlib.Core.Path.{◌≡◌, refl}
-use mathlib.Core.List.{[]}
+use mathlib.Core.Path.{refl}
 use native.Mathlib.Nat.{not-suc-le-zero}
 use native.Mathlib.Omega.{arith}
-use Prim.Native.Nat.{ℕ, ◌-◌, ◌<◌, ◌≤◌, zero-le}
-use lib.ListN.{length, get_or, length-set}
+use Prim.Native.Nat.{zero-le}
+use lib.ListN.{length-set}
 use Rattle.code.specs.Matrix.{entry}
 use Rattle.generator.specs.Matrix.{generator_of}
 use Rattle.galois.specs.Table.{table}
@@ -17,13 +15,12 @@ loop-i-init c =
     (zero-le, refl, λ r h. absurd (not-suc-le-zero h))
 
 pub loop-i-preserved : goal.loop-i-preserved
-loop-i-preserved c =
-    (
-      omega arith,
-      simp length-set c.loop-i.invariant.1,
-      filled_more (λ r. table 16 (λ j. entry c.args.s r j)) [] c.loop-i.rows c.loop-i.i c.generator_row.result (omega arith)
-          c.generator_row.ensures c.loop-i.invariant.2,
-    )
+loop-i-preserved c = (
+  omega arith,
+  simp length-set c.loop-i.invariant.1,
+  filled_more (λ r. table 16 (λ j. entry c.args.s r j)) [] c.loop-i.rows c.loop-i.i c.generator_row.result (omega arith)
+      c.generator_row.ensures c.loop-i.invariant.2,
+)
 
 pub returns : goal.returns
 unfolding generator_of

@@ -1,15 +1,9 @@
 -- The loop fills the matrix row by row.
-use borrow.Author.Rules.{rules}
-use mathlib.Core.Path.{◌≡◌, refl}
-use mathlib.Core.List.{[]}
-use native.Mathlib.Nat.{not-suc-le-zero}
-use native.Mathlib.Omega.{arith}
-use Prim.Native.Nat.{ℕ, ◌-◌, ◌<◌, ◌≤◌, zero-le}
-use lib.ListN.{length, get_or, length-set}
+use mathlib.Core.Path.{◌≡◌}
+use Prim.Native.Nat.{ℕ, ◌-◌, ◌<◌, ◌≤◌}
+use lib.ListN.{length, get_or}
 use Rattle.code.specs.Matrix.{entry}
-use Rattle.generator.specs.Matrix.{generator_of}
 use Rattle.galois.specs.Table.{table}
-use Rattle.galois.proofs.ByIndex.{is_table, filled_more}
 use Rattle.generator.proofs.matrix.generator.Given as goal
 
 abbrev pub invariant-loop-i : goal.invariant-loop-i

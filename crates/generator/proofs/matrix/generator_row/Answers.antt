@@ -4,8 +4,8 @@ use mathlib.Core.Path.{◌≡◌, refl, sym, ap, ◌∙◌}
 use mathlib.Core.List.{List}
 use native.Mathlib.Nat.{not-suc-le-zero}
 use native.Mathlib.Omega.{arith}
-use Prim.Native.Nat.{ℕ, ◌-◌, ◌<◌, ◌≤◌, zero-le}
-use lib.ListN.{length, get_or, length-set}
+use Prim.Native.Nat.{ℕ, ◌-◌, ◌<◌, zero-le}
+use lib.ListN.{get_or, length-set}
 use Rattle.galois.specs.Table.{table}
 use Rattle.gf16.specs.declared.Gf16.{Gf16}
 use Rattle.galois.proofs.ByIndex.{is_table, get_or-table, table_equal, filled_more}
@@ -34,20 +34,18 @@ loop-j-init c =
     (zero-le, refl, λ i h. absurd (not-suc-le-zero h))
 
 pub entry-requires : goal.entry-requires
-entry-requires c =
-    (
-      omega arith,
-      spread_at c.args.s c.args.row c.sources-sources.result c.loop-j.j c.spread_row-products.result
-          c.sources-sources.ensures c.spread_row-products.ensures (omega arith),
-    )
+entry-requires c = (
+  omega arith,
+  spread_at c.args.s c.args.row c.sources-sources.result c.loop-j.j c.spread_row-products.result
+      c.sources-sources.ensures c.spread_row-products.ensures (omega arith),
+)
 
 pub loop-j-preserved : goal.loop-j-preserved
-loop-j-preserved c =
-    (
-      omega arith,
-      simp length-set c.loop-j.invariant.1,
-      filled_more (entry c.args.s c.args.row) 0 c.loop-j.entries c.loop-j.j c.entry.result (omega arith) c.entry.ensures c.loop-j.invariant.2,
-    )
+loop-j-preserved c = (
+  omega arith,
+  simp length-set c.loop-j.invariant.1,
+  filled_more (entry c.args.s c.args.row) 0 c.loop-j.entries c.loop-j.j c.entry.result (omega arith) c.entry.ensures c.loop-j.invariant.2,
+)
 
 pub returns : goal.returns
 returns c =

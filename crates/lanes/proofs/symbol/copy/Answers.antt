@@ -1,9 +1,9 @@
 -- The loop copies the bytes from the front.
-use mathlib.Core.Path.{◌≡◌, refl, sym, ◌∙◌}
+use mathlib.Core.Path.{refl, sym, ◌∙◌}
 use native.Mathlib.Nat.{not-suc-le-zero}
 use native.Mathlib.Omega.{arith}
-use Prim.Native.Nat.{ℕ, ◌-◌, ◌<◌, ◌≤◌, zero-le}
-use lib.ListN.{length, get_or, length-set}
+use Prim.Native.Nat.{◌-◌, zero-le}
+use lib.ListN.{get_or, length-set}
 use lib.Seq.{ext_get_or}
 use Rattle.galois.proofs.ByIndex.{filled_more}
 use Rattle.lanes.proofs.symbol.copy.Goals as goal
@@ -13,12 +13,11 @@ loop-v-init c =
     (zero-le, refl, λ j h. absurd (not-suc-le-zero h))
 
 pub loop-v-preserved : goal.loop-v-preserved
-loop-v-preserved c =
-    (
-      omega arith,
-      simp length-set c.loop-v.invariant.1,
-      filled_more (λ j. get_or c.args.bytes.now j 0) 0 c.loop-v.out c.loop-v.v _ (omega arith) refl c.loop-v.invariant.2,
-    )
+loop-v-preserved c = (
+  omega arith,
+  simp length-set c.loop-v.invariant.1,
+  filled_more (λ j. get_or c.args.bytes.now j 0) 0 c.loop-v.out c.loop-v.v _ (omega arith) refl c.loop-v.invariant.2,
+)
 
 pub shape_of-out : goal.shape_of-out
 shape_of-out c =

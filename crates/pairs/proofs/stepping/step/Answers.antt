@@ -1,5 +1,4 @@
 -- The end, or a step at the part that is lent.
-use borrow.Author.Rules.{rules}
 use mathlib.Core.Path.{◌≡◌, sym, ap, ◌∙◌}
 use mathlib.Core.List.{List}
 use Prim.Native.Nat.{ℕ}
@@ -14,8 +13,7 @@ use Rattle.pairs.proofs.stepping.step.Goals as goal
 
 pub at_frame-requires : goal.at_frame-requires
 at_frame-requires c =
-    let found : c.next_slot.result ≡ next_of c.args.p.receiver.settings c.args.first.now c.args.second.now c.args.p.receiver.due = c.next_slot.ensures in
-    (
+    let found : c.next_slot.result ≡ next_of c.args.p.receiver.settings c.args.first.now c.args.second.now c.args.p.receiver.due = c.next_slot.ensures in (
       rw c.part-frame.ensures.bytes
           (lent_long c.args.p.receiver.settings c.args.first.now c.args.second.now c.requires.0 c.args.p.receiver.due _ (sym (found) ∙ c.in-At.is)),
       c.requires.1,

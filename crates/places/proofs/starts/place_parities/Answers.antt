@@ -11,7 +11,7 @@ use lib.Dec.{ltb}
 use lib.ListN.{get_or}
 use Rattle.galois.specs.Table.{table}
 use Rattle.code.specs.Settings.{k_of, n_of}
-use Rattle.code.proofs.Shape.{Shape, shape}
+use Rattle.code.proofs.Shape.{shape}
 use Rattle.protocol.specs.Lengths.{row_len, receiver_len}
 use Rattle.protocol.specs.Verdict.{row_at}
 use Rattle.places.specs.Places.{places_to, places_of, known_flag, flags_of, parity_flags}
@@ -42,8 +42,7 @@ pub loop-p-init : goal.loop-p-init
 unfolding places_to
 loop-p-init c =
     let h = shape c.args.s c.requires.0.settings in
-    let read : List ℕ = flags_of c.args.s c.args.rows.now c.args.end c.args.t c.args.i in
-    (
+    let read : List ℕ = flags_of c.args.s c.args.rows.now c.args.end c.args.t c.args.i in (
       h,
       omega arith,
       omega arith,

@@ -1,23 +1,14 @@
 -- The loop goes on where the sources end: it fills the places and the flags of the parity positions.
-use borrow.Author.Tests.{lt-ltb, le-ltb}
-use mathlib.Core.Path.{◌≡◌, sym, ap, ◌∙◌}
-use mathlib.Core.Bool.{cond}
-use mathlib.Core.List.{List}
-use native.Mathlib.Nat.{suc-mul, mul-le-mul}
-use native.Mathlib.Numerals.{add-one}
-use native.Mathlib.Omega.{arith}
-use Prim.Native.Nat.{ℕ, ◌+◌, ◌-◌, ◌*◌, ◌<◌, ◌≤◌}
-use lib.Dec.{ltb}
-use lib.ListN.{get_or}
+use mathlib.Core.Path.{◌≡◌}
+use Prim.Native.Nat.{◌+◌, ◌-◌, ◌*◌, ◌≤◌}
 use Rattle.galois.specs.Table.{table}
 use Rattle.code.specs.Settings.{k_of, n_of}
-use Rattle.code.proofs.Shape.{Shape, shape}
-use Rattle.protocol.specs.Lengths.{row_len, receiver_len}
+use Rattle.code.proofs.Shape.{Shape}
 use Rattle.protocol.specs.Verdict.{row_at}
-use Rattle.places.specs.Places.{places_to, places_of, known_flag, flags_of, parity_flags}
-use Rattle.places.proofs.Filled.{up_to, filled_none, filled_next}
-use Rattle.places.proofs.Places.{place_of, row_ends, row_next, first_inside, row_at_few}
-use Rattle.places.proofs.Flags.{parity_flag, flag_at}
+use Rattle.places.specs.Places.{flags_of}
+use Rattle.places.proofs.Filled.{up_to}
+use Rattle.places.proofs.Places.{place_of}
+use Rattle.places.proofs.Flags.{parity_flag}
 use Rattle.places.proofs.starts.place_parities.Given as goal
 
 abbrev pub invariant-loop-p : goal.invariant-loop-p

@@ -1,26 +1,18 @@
 -- The loop fills the places and the roles from the front; the next place is in the row that begins at the start, at the offset.
-use borrow.Author.Tests.{lt-ltb, le-ltb, eq-eqb, ne_eqb}
-use mathlib.Core.Path.{◌≡◌, sym, ap, ◌∙◌}
+use mathlib.Core.Path.{◌≡◌}
 use mathlib.Core.Bool.{cond, ◌&&◌}
 use mathlib.Core.List.{List}
-use mathlib.Core.Logic.{⊎_elim}
-use native.Mathlib.Nat.{zero-mul, suc-mul, mul-le-mul}
-use native.Mathlib.Numerals.{add-one}
-use native.Mathlib.Omega.{arith}
-use Prim.Native.Nat.{ℕ, ◌+◌, ◌-◌, ◌*◌, ◌<◌, ◌≤◌, zero-le}
+use Prim.Native.Nat.{ℕ, ◌+◌, ◌-◌, ◌*◌, ◌≤◌}
 use lib.Dec.{eqb, ltb}
 use lib.ListN.{get_or}
 use Rattle.galois.specs.Table.{table}
 use Rattle.code.specs.declared.settings.Settings.{Settings}
 use Rattle.code.specs.Settings.{k_of}
-use Rattle.code.proofs.Shape.{Shape, shape}
-use Rattle.elimination.proofs.Roles.{first_flags}
-use Rattle.protocol.specs.Lengths.{row_len, receiver_len}
+use Rattle.code.proofs.Shape.{Shape}
 use Rattle.protocol.specs.Verdict.{row_at}
-use Rattle.places.specs.Places.{places_to, known_flag, flags_of}
-use Rattle.places.proofs.Filled.{up_to, filled_none, filled_kept, filled_next, filled_all}
-use Rattle.places.proofs.Places.{place_of, row_ends, row_next, first_inside, row_at_few}
-use Rattle.places.proofs.Flags.{flag_at}
+use Rattle.places.specs.Places.{flags_of}
+use Rattle.places.proofs.Filled.{up_to}
+use Rattle.places.proofs.Places.{place_of}
 use Rattle.places.proofs.starts.place_sources.Given as goal
 
 abbrev pub role_of : Settings → List ℕ → ℕ → ℕ

@@ -1,5 +1,4 @@
 -- The buffers are long enough for any settings that are accepted.
-use borrow.Author.Rules.{rules}
 use mathlib.Core.Path.{◌≡◌, sym, ap, ◌∙◌}
 use native.Mathlib.Omega.{arith}
 use lib.Dec.{T}

@@ -1,20 +1,9 @@
 -- Each step that is not the last leaves fewer slots to play.
-use borrow.Author.Rules.{rules}
-use mathlib.Core.Path.{◌≡◌, refl, sym, ap, ◌∙◌, subst}
-use mathlib.Core.List.{List}
-use native.Mathlib.Omega.{arith}
-use Prim.Native.Nat.{ℕ, ◌+◌, ◌*◌, ◌≤◌, ◌<◌, zero-le}
+use mathlib.Core.Path.{◌≡◌}
+use Prim.Native.Nat.{◌+◌, ◌*◌, ◌≤◌}
 use lib.ListN.{length}
-use Rattle.code.specs.declared.settings.Settings.{Settings}
-use Rattle.protocol.specs.Lengths.{receiver_len}
-use Rattle.protocol.proofs.ReportChain.{opened_receiver_lem}
 use Rattle.aerials.specs.Pair.{pair_cause}
-use Rattle.aerials.proofs.PairLaws.{checked}
-use Rattle.reporting.specs.Acts.{Act}
-use Rattle.reporting.specs.Outcomes.{Outcome, outcome, printed_on}
-use Rattle.steps.specs.Steps.{Begun, begin_of}
-use Rattle.pairplay.specs.Steps.{pair_act, pair_step_of}
-use Rattle.pairplay.proofs.Left.{pair_left, pair_fewer, pair_kept, pair_fits}
+use Rattle.pairplay.proofs.Left.{pair_left}
 use Rattle.play.proofs.pair.play_steps.Given as goal
 
 abbrev pub invariant-loop-stepped : goal.invariant-loop-stepped

@@ -1,5 +1,4 @@
 -- A cause that is found refuses the look-up, and else the decision by the slots below the slot due is the reply.
-use borrow.Author.Rules.{rules}
 use mathlib.Core.Path.{◌≡◌, sym, ap, ◌∙◌, subst, subst⁻¹}
 use mathlib.Core.List.{List}
 use native.Mathlib.Omega.{arith}

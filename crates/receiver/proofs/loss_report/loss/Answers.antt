@@ -1,6 +1,5 @@
 -- A cause that is found refuses the loss, and else the report moves on by a row of zeros.
-use borrow.Author.Rules.{rules}
-use mathlib.Core.Path.{◌≡◌, refl, sym, ap, ◌∙◌}
+use mathlib.Core.Path.{◌≡◌, sym, ap, ◌∙◌}
 use lib.ListN.{length, replicate, length-replicate}
 use Rattle.protocol.specs.Calls.{told_by, moved_on}
 use Rattle.protocol.specs.declared.Answer.TheVariants as answer

@@ -1,5 +1,4 @@
 -- A cause that is found refuses the opening, and else the rows are those of the slots before it.
-use borrow.Author.Rules.{rules}
 use mathlib.Core.Path.{◌≡◌, sym, ap₂, ◌∙◌}
 use native.Mathlib.Omega.{arith}
 use Prim.Native.Nat.{ℕ}
