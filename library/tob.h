@@ -61,8 +61,8 @@
  *             of L bytes, one for each lane
  *
  * The archive has objects for x86-64 Linux, called as System V says. It needs memcpy and memset, and nothing else, and
- * has some 25 KB of code and constants, and no other data. A report takes at most 4,600 bytes of stack, a look-up 4,500,
- * a send 3,500 and any other call 200, whatever the settings; what memcpy and memset take comes on top. */
+ * has some 26 KB of code and constants, and no other data. A report takes at most 5,400 bytes of stack, a look-up 5,300,
+ * a send 4,000 and any other call 200, whatever the settings; what memcpy and memset take comes on top. */
 #ifndef TOB_H
 #define TOB_H
 
