@@ -1,6 +1,5 @@
 -- The buffers are long enough for any settings that are accepted.
-use mathlib.Core.Path.{sym, ap, ◌∙◌}
-use native.Mathlib.Omega.{arith}
+use Rattle.std.proofs.Common.{sym, ap, ◌∙◌, arith}
 use lib.Dec.{T}
 use lib.ListN.{length-take}
 use Rattle.code.specs.Settings.{accepted}
@@ -18,11 +17,19 @@ slice_bounds-put-end g c =
 pub slice_bounds-play_steps-end : goal.slice_bounds-play_steps-end
 slice_bounds-play_steps-end g c =
     let ok : T (accepted c.in-Play.s) = play_accepted c.args.recording.now c.in-Play.s (sym c.examine.ensures ∙ c.in-Play.is) in
-    omega (arith, rows_few c.in-Play.s (ok), c.receiver_len-rows_end.ensures)
+    omega (arith, rows_few c.in-Play.s ok, c.receiver_len-rows_end.ensures)
+
+pub slice_bounds-play_steps-end-in-Play : goal.slice_bounds-play_steps-end-in-Play
+slice_bounds-play_steps-end-in-Play g c =
+    let ok : T (accepted c.in-Play.s) = play_accepted c.args.recording.now c.in-Play.s (sym c.examine.ensures ∙ c.in-Play.is) in
+    omega (arith, message_few c.in-Play.s ok, c.message_len-message_end.ensures)
 
 pub play_steps-requires : goal.play_steps-requires
 play_steps-requires g c =
     let ok : T (accepted c.in-Play.s) = play_accepted c.args.recording.now c.in-Play.s (sym c.examine.ensures ∙ c.in-Play.is) in
-    let few = message_few c.in-Play.s (ok) in
-    let part = length-take c.message_len-message_end.result c.args.message.now in
-    omega (arith, few, part, c.message_len-message_end.ensures)
+    omega (
+      arith,
+      message_few c.in-Play.s ok,
+      length-take c.message_len-message_end.result c.args.message.now,
+      c.message_len-message_end.ensures,
+    )

@@ -1,46 +1,38 @@
 -- There is room for the longest line, so each filling that is not the last leaves fewer steps.
-use mathlib.Core.Path.{◌≡◌, refl, sym, ap, ◌∙◌, subst}
-use mathlib.Core.List.{List}
-use native.Mathlib.Omega.{arith}
-use Prim.Native.Nat.{ℕ, ◌<◌}
-use lib.ListN.{length}
+use Rattle.std.proofs.Common.{◌≡◌, false, ℕ, ◌≤◌, ◌<◌, List, length, sym, ap, ◌∙◌, subst, arith}
 use Rattle.lines.specs.Lent.{longest}
+use Rattle.progress.specs.declared.Player.{Player}
 use Rattle.reporting.specs.Outcomes.{Outcome, outcome}
 use Rattle.player.specs.Filling.{filled_of}
 use Rattle.player.proofs.LoopLaws.{filled_fits, filled_fewer}
 use Rattle.player.proofs.StepsLeft.{steps_left}
 use Rattle.play.proofs.play_steps.Goals as goal
 
-abbrev made : At → Outcome
-made c = outcome c.fill.result c.fill.new.1.1.0 c.fill.new.1.1.1.0 c.fill.new.1.1.1.1.0
+module _ (p : Player) (recording rows message out : List ℕ) (made : Outcome) (filled : made ≡ filled_of p recording rows message out) where
+  made_fits : length made.out ≡ length out → made.len ≤ length out
+  made_fits kept =
+      subst (λ (r : Outcome). r.len ≤ length out) (sym filled)
+      (filled_fits p recording rows message out (sym (ap (λ (r : Outcome). length r.out) filled) ∙ kept))
 
-abbrev recording : At → List ℕ
-recording c = (loop c).before.before.before.before.before.before.before.before.before.before.before.before.args.recording.now
-
-pub loop-filled-init : goal.loop-filled-init
-loop-filled-init g c =
-    (omega arith, refl, refl, refl)
+  made_fewer : longest message ≤ length out → made.over ≡ false → steps_left recording made.player < steps_left recording p
+  made_fewer room more =
+      subst (λ (r : Outcome). steps_left recording r.player < steps_left recording p) (sym filled)
+      (filled_fewer p recording rows message out room (sym (ap (λ (r : Outcome). r.over) filled) ∙ more))
 
 pub slice_bounds-put-end : goal.slice_bounds-put-end
 slice_bounds-put-end g c =
-    let filled : made c ≡ filled_of c.loop-filled.p (recording c) c.loop-filled.rows c.loop-filled.message c.loop-filled.out = c.fill-filled.ensures in
-    let kept : length (filled_of c.loop-filled.p (recording c) c.loop-filled.rows c.loop-filled.message c.loop-filled.out).out ≡ length c.loop-filled.out =
-    sym (ap (λ (r : Outcome). length r.out) (filled)) ∙ c.fill-filled.auto.1.1.1.1.0 in
+    let at = c.loop-filled in
+    let f = c.fill-filled in
     omega (
       arith,
-      filled_fits c.loop-filled.p (recording c) c.loop-filled.rows c.loop-filled.message c.loop-filled.out kept,
-      ap (λ (r : Outcome). r.len) (filled),
-      c.fill-filled.auto.1.1.1.1.0,
+      made_fits at.p c.args.recording.now at.rows at.message at.out (outcome f.result f.new.rows f.new.message f.new.out) f.ensures f.auto.out,
+      f.auto.out,
     )
 
 pub loop-filled-smaller : goal.loop-filled-smaller
 unfolding longest
 loop-filled-smaller g c =
-    let filled : made c ≡ filled_of c.loop-filled.p (recording c) c.loop-filled.rows c.loop-filled.message c.loop-filled.out = c.fill-filled.ensures in
-    let more = sym (ap (λ (r : Outcome). r.over) (filled)) ∙ c.if-filled.false in
-    subst (λ (r : Outcome). steps_left (recording c) r.player < steps_left (recording c) c.loop-filled.p) (sym (filled))
-    (filled_fewer c.loop-filled.p (recording c) c.loop-filled.rows c.loop-filled.message c.loop-filled.out c.loop-filled.invariant.0 more)
-
-pub loop-filled-preserved : goal.loop-filled-preserved
-loop-filled-preserved g c =
-    (omega arith, omega arith, omega arith, omega arith)
+    let at = c.loop-filled in
+    let f = c.fill-filled in
+    made_fewer at.p c.args.recording.now at.rows at.message at.out (outcome f.result f.new.rows f.new.message f.new.out) f.ensures
+    at.invariant.0 c.if-filled.false
