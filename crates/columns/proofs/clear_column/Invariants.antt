@@ -1,4 +1,5 @@
 -- The loop sweeps the first k rows, from the first on; those from q on are as they came. The pivot's row is set at the end.
+use mathlib.Core.List.{[]}
 use mathlib.Core.Path.{◌≡◌}
 use Prim.Native.Nat.{ℕ, ◌-◌, ◌<◌, ◌≤◌}
 use lib.ListN.{length, get_or}

@@ -1,6 +1,6 @@
 -- The loop adds one multiple a turn: before m it has cancelled the source symbols i + 1 to m - 1.
 use mathlib.Core.Path.{◌≡◌}
-use mathlib.Core.List.{List}
+use mathlib.Core.List.{[], List}
 use Prim.Native.Nat.{ℕ, ◌+◌, ◌-◌, ◌≤◌}
 use lib.ListN.{get_or}
 use Rattle.galois.specs.Byte.{◌⊕◌, ◌⊗◌}

@@ -1,4 +1,5 @@
 -- The rows are done from the last source symbol down: at i, rows i and up are the systematic form's.
+use mathlib.Core.List.{[]}
 use mathlib.Core.Path.{◌≡◌, refl, sym, ◌∙◌, subst⁻¹}
 use mathlib.Core.Logic.{⊎_elim}
 use lib.Dec.{T}

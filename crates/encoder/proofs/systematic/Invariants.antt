@@ -1,4 +1,5 @@
 -- The rows are done from the last source symbol down: at i, rows i and up are the systematic form's.
+use mathlib.Core.List.{[]}
 use mathlib.Core.Path.{◌≡◌}
 use Prim.Native.Nat.{ℕ, ◌<◌, ◌≤◌}
 use lib.ListN.{length, get_or}

@@ -1,4 +1,5 @@
 -- The loop fills the bytes from the front, each with the halves of two coefficients; those behind them are 0 from the start.
+use mathlib.Core.List.{[]}
 use mathlib.Core.Path.{◌≡◌}
 use Prim.Native.Nat.{ℕ, ◌+◌, ◌-◌, ◌*◌, ◌/◌, ◌%◌, ◌<◌, ◌≤◌}
 use lib.ListN.{length, get_or}

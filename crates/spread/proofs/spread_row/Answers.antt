@@ -1,4 +1,5 @@
 -- The products over no points are 1; each turn of the loop takes them over one point more, from one array into the other.
+use mathlib.Core.List.{[]}
 use mathlib.Core.Path.{◌≡◌, refl, ◌∙◌}
 use native.Mathlib.Omega.{arith}
 use Prim.Native.Nat.{◌+◌, ◌-◌, ◌%◌, zero-le}

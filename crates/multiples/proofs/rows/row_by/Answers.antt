@@ -1,4 +1,5 @@
 -- The loop fills the row from the front; the four entries added are those of the digits of c.
+use mathlib.Core.List.{[]}
 use mathlib.Core.Path.{refl, ap, ◌∙◌}
 use native.Mathlib.Nat.{not-suc-le-zero}
 use native.Mathlib.Omega.{arith}

@@ -1,4 +1,5 @@
 -- The loop fills the lanes from the front with the sum by the low halves and α times that by the high halves.
+use mathlib.Core.List.{[]}
 use mathlib.Core.Path.{refl, ap, ap₂, ◌∙◌}
 use native.Mathlib.Nat.{not-suc-le-zero}
 use native.Mathlib.Omega.{arith}
