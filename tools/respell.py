@@ -15,7 +15,7 @@ STD = set(
     "length take drop append map sum reverse replicate set get_or get add mul sub mod div all any every zip fold filter concat"
     " bit_xor bit_and bit_or suc not cond min max".split()
 )
-W = r"[^\s(){}.;,@\"«»\[\]\\]+"
+W = r"[^\s(){}.;,@`\"«»\[\]\\]+"
 CAMEL = re.compile(r"(?<![A-Za-z])([a-z][a-z0-9]*(?:[A-Z][a-z0-9]*)+)")
 
 

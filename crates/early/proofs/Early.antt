@@ -1,4 +1,4 @@
--- As early as it can be known: `early-known`, whose statement is `EarlyKnown` of specs/Early.antt.
+-- As early as it can be known: `early_known`, whose statement is `EarlyKnown` of specs/Early.antt.
 use mathlib.Core.Path.{◌≡◌, refl, sym, ap, ◌∙◌, subst, subst⁻¹}
 use mathlib.Core.Bool.{not}
 use mathlib.Core.Logic.{⊎_elim}
@@ -264,8 +264,8 @@ early_from s opening rows opens send_calls bytes cs =
     (λ faithful. all-early s ok send_calls bytes _ (mixed_begun s opening ok cs) faithful (mixed_standing s opening ok cs))
 
 -- document 02 §6. Wrong look-ups that agree with themselves, and what in the statement rules each out:
--- - whole as soon as the message's own slot was heard, or not before its last slot: `as-early` says exactly when
--- - one that reads an old slot's row for the slot due: `as-sent`, and `stays`, for the next report writes over it
+-- - whole as soon as the message's own slot was heard, or not before its last slot: `as_early` says exactly when
+-- - one that reads an old slot's row for the slot due: `as_sent`, and `stays`, for the next report writes over it
 -- - one that moves the slot due on or writes a row: `demand3` is of the reports as they are made among look-ups
 pub early_known : EarlyKnown
 unfolding EarlyKnown

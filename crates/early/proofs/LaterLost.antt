@@ -1,4 +1,4 @@
--- Later slots are as losses to a look-up: `later-lost`, whose statement is `LaterLost` of specs/Early.antt.
+-- Later slots are as losses to a look-up: `later_lost`, whose statement is `LaterLost` of specs/Early.antt.
 use mathlib.Core.Path.{◌≡◌, sym, ap, ◌∙◌, subst}
 use mathlib.Core.List.Memᴰ
 use mathlib.Core.List.{List, [], ◌∷◌, Memᴰ}

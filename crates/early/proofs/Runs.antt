@@ -1,4 +1,4 @@
--- The calls that a program makes are a mixed list: `early-runs`, whose statement is `EarlyRuns` of specs/Runs.antt.
+-- The calls that a program makes are a mixed list: `early_runs`, whose statement is `EarlyRuns` of specs/Runs.antt.
 use mathlib.Core.Path.{◌≡◌, refl, ap, ◌∙◌, subst⁻¹}
 use mathlib.Core.List.{List, [], ◌∷◌, map}
 use Prim.Native.Nat.{ℕ}

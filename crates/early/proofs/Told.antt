@@ -1,4 +1,4 @@
--- What a call tells over the true history: `each-told-truly`, whose statement is `EachToldTruly` of specs/Told.antt.
+-- What a call tells over the true history: `each_told_truly`, whose statement is `EachToldTruly` of specs/Told.antt.
 use mathlib.Core.List.{List}
 use Prim.Native.Nat.{ℕ}
 use Rattle.code.specs.declared.settings.Settings.{Settings}

@@ -1,4 +1,4 @@
--- Demand 3 of reports that were fed from an accepted pair: `pair-faithful-demand3` and `pair-demand3`, whose statements are
+-- Demand 3 of reports that were fed from an accepted pair: `pair-faithful-demand3` and `pair_demand3`, whose statements are
 -- `PairFaithfulDemand3` and `PairDemand3` of specs/Fed.antt.
 use mathlib.Core.Path.{◌≡◌, sym, ◌∙◌, subst}
 use mathlib.Core.Logic.{⊎_elim}

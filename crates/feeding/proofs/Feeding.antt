@@ -1,4 +1,4 @@
--- What holds of reports that were fed from an accepted pair: `pair-fed`, whose statement is `PairFed` of specs/Fed.antt.
+-- What holds of reports that were fed from an accepted pair: `pair_fed`, whose statement is `PairFed` of specs/Fed.antt.
 use mathlib.Core.Path.{◌≡◌, refl, ap, ◌∙◌}
 use mathlib.Core.Bool.{Bool, true, false, not}
 use mathlib.Core.Logic.{◌⊎◌, inl, inr, ⊎_elim, ◌↔◌}

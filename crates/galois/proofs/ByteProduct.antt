@@ -1,5 +1,5 @@
 -- The laws of the product of bytes. It is additive in each argument by the narrow laws, so that a law needs only its cases at
--- powers of two. All but `one-times` hold of any number, which counts as its remainder by 256.
+-- powers of two. All but `one_times` hold of any number, which counts as its remainder by 256.
 use mathlib.Core.Path.{◌≡◌, refl, sym, ap, ap₂, ◌∙◌, subst, subst⁻¹}
 use mathlib.Core.Logic.{⊎_elim}
 use Prim.Native.Nat.{ℕ, zero, suc, ◌+◌, ◌-◌, ◌/◌, ◌%◌, ◌^◌, ◌<◌}

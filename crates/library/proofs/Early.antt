@@ -1,4 +1,4 @@
--- What look-ups tell early, of the static library: early's `early-known`, carried over to what the library's callers see.
+-- What look-ups tell early, of the static library: early's `early_known`, carried over to what the library's callers see.
 use mathlib.Core.Path.{◌≡◌, refl, sym, ap, ap₂, ◌∙◌, subst, subst⁻¹}
 use mathlib.Core.List.{List, Memᴰ, Forall₂}
 use Prim.Native.Nat.{ℕ, ◌≤◌}

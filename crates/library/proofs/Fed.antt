@@ -1,4 +1,4 @@
--- A pair that is fed through the static library: feeding's `pair-fed` and `pair-faithful-demand3`, carried over to what the library's
+-- A pair that is fed through the static library: feeding's `pair_fed` and `pair-faithful-demand3`, carried over to what the library's
 -- callers see.
 use mathlib.Core.Path.{◌≡◌, refl, sym, ap, ap₂, ◌∙◌, subst, subst⁻¹}
 use mathlib.Core.Logic.{inl, inr, ⊎_elim}

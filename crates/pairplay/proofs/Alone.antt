@@ -1,4 +1,4 @@
--- A pair of which one recording is empty: `one-empty`, whose statement is `OneEmpty` of specs/Alone.antt.
+-- A pair of which one recording is empty: `one_empty`, whose statement is `OneEmpty` of specs/Alone.antt.
 use mathlib.Core.Path.{◌≡◌, refl, sym, ap, ◌∙◌}
 use mathlib.Core.Bool.{Bool, true, false, not, ◌||◌, or-false}
 use mathlib.Core.Logic.{◌≢◌, ◌⊎◌, inl, inr, ⊎_elim}
@@ -365,7 +365,7 @@ none_or_some : (recording : List ℕ) → (length recording ≡ 0) ⊎ (length r
 none_or_some recording = ⊎_elim (λ some. inr (λ none. omega arith)) (λ none. inl (omega arith)) (le_or_lt 1 (length recording))
 
 -- Wrong pairs that agree with themselves, and what in the statement rules each out:
--- - the settings are those of the first recording, also where it is empty: `as-second`
+-- - the settings are those of the first recording, also where it is empty: `as_second`
 -- - an empty recording is refused, or ends the pair before its first slot: both of `AsAlone`
 -- - the slots that the recording skips are printed otherwise than alone, or its gaps judged otherwise: `same`
 pub one_empty : OneEmpty

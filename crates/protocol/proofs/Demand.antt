@@ -135,13 +135,13 @@ module _ (s : Settings) (ok : T (accepted s)) (calls : List Send) (bytes : (c : 
   }
 
 -- demand 3. Wrong definitions that agree with themselves, and what in the statement rules each out:
--- - lost for any slot not heard: `on-time` asks for whole; `verdict-lost` allows lost only where two fitting words differ
--- - the first k + T slots decoded, then the last message repeated: `on-time` is for every t
--- - zero parity: `on-time` has losses, and a lost message is only in the parity; the words are those of G (`frame-true`)
--- - a loss that leaves its row: `on-time` is about the rows as every earlier report left them
+-- - lost for any slot not heard: `on_time` asks for whole; `verdict_lost` allows lost only where two fitting words differ
+-- - the first k + T slots decoded, then the last message repeated: `on_time` is for every t
+-- - zero parity: `on_time` has losses, and a lost message is only in the parity; the words are those of G (`frame_true`)
+-- - a loss that leaves its row: `on_time` is about the rows as every earlier report left them
 -- - slots before 0 lost: `Fair` looks at slots from 0 on, so that message 0 may come after N losses from slot 0 on
--- - slots before the opening taken as received: the words that fit would have zeros in them, and not be the true ones (`known-true`)
--- - fairness that ignores W: `Fair` asks only for stretches of at most W slots; `fair-apart` has losses that are fair so and not else
+-- - slots before the opening taken as received: the words that fit would have zeros in them, and not be the true ones (`known_true`)
+-- - fairness that ignores W: `Fair` asks only for stretches of at most W slots; `fair_apart` has losses that are fair so and not else
 pub demand3 : Demand3
 unfolding Demand3
 demand3 s ok opening in_time_lem sender_rows receiver_rows sends-exact reports-exact send_calls bytes report_calls faithful =

@@ -1,4 +1,4 @@
--- Demand 2, the sender: `demand2-frame`, whose statement is `Demand2Frame` of specs/Meaning.antt.
+-- Demand 2, the sender: `demand2_frame`, whose statement is `Demand2Frame` of specs/Meaning.antt.
 use mathlib.Core.Path.{◌≡◌, refl, sym, ◌∙◌, subst⁻¹}
 use mathlib.Core.List.{List, Memᴰ}
 use Prim.Native.Nat.{ℕ, ◌+◌, ◌-◌, ◌*◌, ◌%◌, ◌≤◌, ◌<◌}

@@ -1,4 +1,4 @@
--- Document 02 §6: when a look-up meets no cause, and what it tells then: `look-up-tells`, whose statement is `LookUpTells` of
+-- Document 02 §6: when a look-up meets no cause, and what it tells then: `look_up_tells`, whose statement is `LookUpTells` of
 -- specs/Meaning.antt.
 use mathlib.Core.Path.{◌≡◌, refl, sym, ap₂, ◌∙◌, subst, subst⁻¹}
 use mathlib.Core.Bool.{Bool, true, false, true≢false, ◌||◌}

@@ -1,4 +1,4 @@
--- A number tells its case: `numbers-tell`, whose statement is `NumbersTell` of specs/Numbers.antt.
+-- A number tells its case: `numbers_tell`, whose statement is `NumbersTell` of specs/Numbers.antt.
 use mathlib.Core.Path.{◌≡◌, refl, sym, ap, ◌∙◌}
 use mathlib.Core.Bool.{cond}
 use mathlib.Core.Logic.{◌≢◌}

@@ -1,4 +1,4 @@
--- Demand 2, the receiver: `demand2-verdict`, whose statement is `Demand2Verdict` of specs/Meaning.antt.
+-- Demand 2, the receiver: `demand2_verdict`, whose statement is `Demand2Verdict` of specs/Meaning.antt.
 use mathlib.Core.Path.{◌≡◌, refl, ap, subst, subst⁻¹}
 use mathlib.Core.Bool.{Bool, true, false, cond}
 use mathlib.Core.Logic.{◌↔◌, ◌⊎◌, inl, inr, ⊎_elim}
@@ -115,7 +115,7 @@ accepted_moves x rows (missed message) ok = go (loss_cause x rows message) refl
 -- - lost, or none yet, without a look at later frames: 18 is told by what arrived up to slot t + T, and 16 below slot T alone
 -- - a fixed message, or the last one repeated: whole has the bytes that the fitting words of message t share, for every t
 -- - zero parity at both ends: the words are those of G
--- - a loss that leaves its row, or slots before 0 lost: `by-history` has every position known exactly as it came
+-- - a loss that leaves its row, or slots before 0 lost: `by_history` has every position known exactly as it came
 pub demand2_verdict : Demand2Verdict
 demand2_verdict = record {
   by_rows = λ x rows call ok.

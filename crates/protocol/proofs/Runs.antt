@@ -1,4 +1,4 @@
--- Demand 3, of the calls that a program makes: `runs-are-lists` and `demand3-runs`, whose statements are in specs/Runs.antt.
+-- Demand 3, of the calls that a program makes: `runs_are_lists` and `demand3_runs`, whose statements are in specs/Runs.antt.
 use mathlib.Core.Path.{◌≡◌, refl, sym, ap, ◌∙◌, subst, subst⁻¹}
 use mathlib.Core.List.Memᴰ
 use mathlib.Core.List.{List, [], ◌∷◌, map, Memᴰ}

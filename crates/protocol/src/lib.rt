@@ -43,14 +43,14 @@ pub enum Cause {
     OutOfReach,
 }
 
-// What an opening or a send answers; `answerNumber` of specs/Numbers.antt has the numbers.
+// What an opening or a send answers; `answer_number` of specs/Numbers.antt has the numbers.
 #[derive(Clone, Copy)]
 pub enum Answer {
     Accepted,
     Refused(Cause),
 }
 
-// What a report or a look-up answers; `replyNumber` of specs/Numbers.antt has the numbers.
+// What a report or a look-up answers; `reply_number` of specs/Numbers.antt has the numbers.
 #[derive(Clone, Copy)]
 pub enum Reply {
     Refused(Cause),
