@@ -47,11 +47,6 @@ pub fn read_all<R: Read>(reader: &mut R, buf: &mut [u8]) -> Input
     }
 }
 
-// Whether there is an argument i.
-pub fn has_argument(rt: &impl Env, i: usize) -> bool {
-    !matches!(rt.arg(i, &mut []), Err(FillError::NotPresent))
-}
-
 // Tells on standard error what could not be read, and why; where that fails too, there is nowhere left to tell it.
 fn tell(rt: &impl Eprint, what: &str, why: Error) {
     let _ = eprintln!(rt; "{what}: {why}");

@@ -7,11 +7,18 @@ ghost use Rattle.std.specs.Prelude.{◌≡◌, ◌+◌, ◌*◌, ◌≤◌, leng
 
 use buffers::{message_len, receiver_len};
 use code::Settings;
+use std::env::FillError;
+use std::rt::Env;
 use stops::Start;
 
 // Tells on standard error why nothing more is played; where that fails too, there is nowhere left to tell it.
 pub(crate) fn tell(rt: &impl Eprint, why: &str) {
     let _ = eprintln!(rt; "play: {why}");
+}
+
+// Whether there is an argument i.
+pub(crate) fn has_argument(rt: &impl Env, i: usize) -> bool {
+    !matches!(rt.arg(i, &mut []), Err(FillError::NotPresent))
 }
 
 // Writes to standard output, and answers whether it could.
@@ -105,7 +112,7 @@ fn main(rt: HostRuntime) {
     let mut rows = [0u8; 30750];
     let mut message = [0u8; 960];
     let mut out = [0u8; 65536];
-    if !input::has_argument(&rt, 2) {
+    if !has_argument(&rt, 2) {
         read_and_play(&rt, &mut input, &mut rows, &mut message, &mut out);
         return;
     }

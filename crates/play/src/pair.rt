@@ -3,7 +3,7 @@ ghost use Rattle.std.specs.Prelude.{◌≡◌, ◌+◌, ◌*◌, ◌≤◌, leng
 ghost use Rattle.protocol.specs.Lengths.{receiver_len};
 ghost use Rattle.aerials.specs.Pair.{pair_cause};
 
-use crate::{put, tell};
+use crate::{has_argument, put, tell};
 use buffers::{message_len, receiver_len};
 use code::Settings;
 use pairplay::PairStart;
@@ -80,7 +80,7 @@ pub(crate) fn read_and_play<R: Env + Files + Print + Eprint>(
 )
     requires { (30750 ≤ length rows.old) × (960 ≤ length message.old) × (length out.old ≡ 65536) }
 {
-    if input::has_argument(rt, 3) {
+    if has_argument(rt, 3) {
         tell(rt, "more than two recordings");
         return;
     }
