@@ -9,18 +9,12 @@ use code::Settings;
 pub fn exactly(s: Settings, size: usize, rows: usize, message: usize) -> bool
     ensures { result ≡ exactly s size rows message }
 {
-    if rows != size {
-        return false;
-    }
-    message == message_len(s)
+    rows == size && message == message_len(s)
 }
 
 // Those, and a frame.
 pub fn exactly_framed(s: Settings, size: usize, rows: usize, message: usize, frame: usize) -> bool
     ensures { result ≡ exactly_framed s size rows message frame }
 {
-    if !exactly(s, size, rows, message) {
-        return false;
-    }
-    frame == frame_len(s)
+    exactly(s, size, rows, message) && frame == frame_len(s)
 }

@@ -7,20 +7,12 @@ pub fn write_at(out: &mut [u8], start: usize, bytes: &[u8])
     ensures { out.new
         ≡ take start out.old ++ bytes.now ++ drop (start + length bytes.now) out.old }
 {
-    let mut i: usize = 0;
-    while i < bytes.len() {
-        out[start + i] = bytes[i];
-        i += 1;
-    }
+    out[start..start + bytes.len()].copy_from_slice(bytes);
 }
 
 // Zeros over a whole slice.
 pub fn clear(out: &mut [u8])
     ensures { out.new ≡ replicate (length out.old) 0 }
 {
-    let mut i: usize = 0;
-    while i < out.len() {
-        out[i] = 0;
-        i += 1;
-    }
+    out.fill(0);
 }
