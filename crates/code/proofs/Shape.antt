@@ -1,11 +1,10 @@
 -- What acceptance says of the settings, as facts about numbers.
-use mathlib.Core.Path.{◌≡◌, refl, sym}
-use mathlib.Core.Bool.{Bool, true, false, and-true}
+use mathlib.Core.Path.{◌≡◌}
+use mathlib.Core.Bool.{Bool}
 use mathlib.Core.List.{List, [], ◌∷◌}
 use Prim.Native.Nat.{◌+◌, ◌≤◌}
 use native.Mathlib.Omega.{arith}
 use lib.Dec.{T, leb, leb→le}
-use borrow.Author.Tests.{le-leb}
 use Rattle.galois.proofs.Cases.{and_left, and_right, both_pass}
 use Rattle.code.specs.declared.settings.Settings.{Settings}
 use Rattle.code.specs.Settings.{accepted, all, delay_of, k_of, n_of, d_of}
@@ -50,25 +49,3 @@ shape s t =
     let L = leb→le 1 s.lanes tests.1.1.1.1.1.0 in
     let M = leb→le s.lanes 64 tests.1.1.1.1.1.1.0 in
     omega arith
-
-pub refused : (s : Settings) → (Shape s → ⊥) → false ≡ accepted s
-refused s never = go (accepted s) (λ t. never (shape s t))
-  where
-    go : (b : Bool) → (T b → ⊥) → false ≡ b
-    go true h = absurd (h tt)
-    go false h = refl
-
--- past the other conditions, L ≤ 64 decides
-pub lanes_decide : (s : Settings) → 1 ≤ s.scattered → s.scattered ≤ s.burst → s.burst ≤ delay_of s → n_of s ≤ 16
-    → s.window ≤ 255 → 1 ≤ s.lanes → leb s.lanes 64 ≡ accepted s
-unfolding accepted all
-lanes_decide s N B D n W L =
-    rw (
-      le-leb 1 s.scattered N,
-      le-leb s.scattered s.burst B,
-      le-leb s.burst (delay_of s) D,
-      le-leb (n_of s) 16 n,
-      le-leb s.window 255 W,
-      le-leb 1 s.lanes L,
-    )
-    (sym (and-true (leb s.lanes 64)))

@@ -1,5 +1,5 @@
 -- Document 01, "Settings", and document 02 §5: which are accepted, the delay, and k, n and d.
-use Rattle.std.specs.Prelude.{Bool, true, ◌&&◌, List, [], ◌∷◌, ℕ, ◌+◌, ◌-◌, min, leb}
+use Rattle.std.specs.Prelude.{Bool, true, ◌&&◌, List, [], ◌∷◌, ℕ, ◌+◌, ◌-◌, ◌/◌, min, leb}
 use Rattle.code.specs.declared.settings.Settings.{Settings}
 
 -- T as every formula uses it: the smaller of T and W - 1 (document 02 §5); the frame, the state and cause 5 keep T as set
@@ -9,6 +9,10 @@ delay_of s = min s.delay (s.window - 1)
 -- k, the source symbols of a word
 unfoldable pub k_of : Settings → ℕ
 k_of s = delay_of s - s.scattered + 1
+
+-- the pairs that the source symbols of a word fill, two in each
+abbrev pub pair_count : Settings → ℕ
+pair_count s = (k_of s + 1) / 2
 
 -- n, the symbols of a word
 unfoldable pub n_of : Settings → ℕ
