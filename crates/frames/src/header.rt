@@ -9,21 +9,23 @@ use code::Settings;
 pub fn header_bytes(version: u16, s: Settings, due: u32) -> [u8; 14]
     ensures { result ≡ header version s due }
 {
+    let [high, low] = version.to_be_bytes();
+    let [first, second, third, last] = due.to_be_bytes();
     [
-        0x54,
-        0x4f,
-        0x42,
-        (version / 256 % 256) as u8,
-        (version % 256) as u8,
+        b'T',
+        b'O',
+        b'B',
+        high,
+        low,
         s.window,
         s.delay,
         s.burst,
         s.scattered,
         s.lanes,
-        (due / 16777216 % 256) as u8,
-        (due / 65536 % 256) as u8,
-        (due / 256 % 256) as u8,
-        (due % 256) as u8,
+        first,
+        second,
+        third,
+        last,
     ]
 }
 
@@ -32,12 +34,5 @@ pub fn agrees(frame: &[u8], head: [u8; 14], first: usize, end: usize) -> bool
     requires { (first ≤ end) × (end ≤ 14) × (14 ≤ length frame.now) }
     ensures { result ≡ every (end - first) (λ i. eqb (get_or frame.now (first + i) 0) (get_or head (first + i) 0)) }
 {
-    let mut i = first;
-    while i < end {
-        if frame[i] != head[i] {
-            return false;
-        }
-        i += 1;
-    }
-    true
+    frame[first..end] == head[first..end]
 }

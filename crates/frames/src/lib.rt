@@ -13,7 +13,7 @@ pub use header::{agrees, header_bytes};
 use protocol::{Answer, Cause};
 pub use reading::slot_read_cause;
 
-// W, T, B, N and L, from the place `start`.
+// W, T, B, N and L, from the place `start`. Each is read at its place: a pattern over the slice would need an arm for fewer bytes.
 pub fn settings_at(bytes: &[u8], start: usize) -> Settings
     requires { start + 5 ≤ length bytes.now }
     ensures { result ≡ settings_at start bytes.now }
@@ -27,24 +27,17 @@ pub fn settings_at(bytes: &[u8], start: usize) -> Settings
     }
 }
 
-// Four bytes as one number, the first the highest.
-fn high_first(a: u8, b: u8, c: u8, d: u8) -> u32
-    ensures { result ≡ ((a * 256 + b) * 256 + c) * 256 + d }
-{
-    ((a as u32 * 256 + b as u32) * 256 + c as u32) * 256 + d as u32
-}
-
 // A slot in 32 bits, high byte first, from the place `start`.
 pub fn slot_at(bytes: &[u8], start: usize) -> u32
     requires { start + 4 ≤ length bytes.now }
     ensures { result ≡ slot_at start bytes.now }
 {
-    high_first(
+    u32::from_be_bytes([
         bytes[start],
         bytes[start + 1],
         bytes[start + 2],
         bytes[start + 3],
-    )
+    ])
 }
 
 // The slot of a frame.
