@@ -10,8 +10,7 @@ use lib.Dec.{ltb}
 use borrow.Author.Tests.{lt-ltb, ltb-true, ltb-false}
 use Rattle.galois.proofs.Cases.{is_true, is_false, le_or_lt}
 use Rattle.code.specs.declared.settings.Settings.{Settings}
-use Rattle.aerials.specs.declared.Next.{Next}
-use Rattle.aerials.specs.declared.Next.TheVariants.{At, Nothing}
+use Rattle.std.specs.Prelude.{Option, Some, None}
 use Rattle.aerials.specs.Pair.{frames_in, slot_of, has}
 use Rattle.aerials.specs.Parts.{below}
 use Rattle.aerials.specs.Sound.{Rising, Checked}
@@ -79,12 +78,12 @@ module _ (s : Settings) (recording : List ℕ) where
 -- ---- the next slot
 
 -- the first number, from a slot on, at which a test passes
-pub data FirstFrom (test : ℕ → Bool) (slot : ℕ) : Next → Type 0 where
-  none : ((k : ℕ) → slot ≤ k → test k ≡ false) → FirstFrom test slot Nothing
-  first_at : (n : ℕ) → slot ≤ n → test n ≡ true → ((k : ℕ) → slot ≤ k → k < n → test k ≡ false) → FirstFrom test slot (At n)
+pub data FirstFrom (test : ℕ → Bool) (slot : ℕ) : Option ℕ → Type 0 where
+  none : ((k : ℕ) → slot ≤ k → test k ≡ false) → FirstFrom test slot None
+  first_at : (n : ℕ) → slot ≤ n → test n ≡ true → ((k : ℕ) → slot ≤ k → k < n → test k ≡ false) → FirstFrom test slot (Some n)
 
 -- where there is one: the test passes there, and not before
-pub found_at : {test : ℕ → Bool} {slot n : ℕ} → FirstFrom test slot (At n)
+pub found_at : {test : ℕ → Bool} {slot n : ℕ} → FirstFrom test slot (Some n)
     → (slot ≤ n) × (test n ≡ true) × ((k : ℕ) → slot ≤ k → k < n → test k ≡ false)
 found_at (first_at n h e before) = (h, e, before)
 
@@ -117,7 +116,7 @@ module _ (s : Settings) (recording : List ℕ) (rising : Rising s recording) (sl
           rw (e, next_in) (none (λ k h. has_none k h (λ i l m same. omega arith)))
 
 -- the earlier of two
-earlier_first : (f g : ℕ → Bool) (slot : ℕ) {a b : Next} → FirstFrom f slot a → FirstFrom g slot b
+earlier_first : (f g : ℕ → Bool) (slot : ℕ) {a b : Option ℕ} → FirstFrom f slot a → FirstFrom g slot b
     → FirstFrom (λ k. f k || g k) slot (earlier a b)
 unfolding earlier
 earlier_first f g slot (none p) (none q) = none (λ k h. rw (p k h, q k h))
@@ -125,7 +124,7 @@ earlier_first f g slot (none p) (first_at n h e q) = first_at n h (rw (p n h, e)
 earlier_first f g slot (first_at n h e p) (none q) = first_at n h (rw e) (λ k l b. rw (p k l b, q k l))
 earlier_first f g slot (first_at n h e p) (first_at m i d q) = go (ltb m n) refl
   where
-    go : (b : Bool) → ltb m n ≡ b → FirstFrom (λ k. f k || g k) slot (earlier (At n) (At m))
+    go : (b : Bool) → ltb m n ≡ b → FirstFrom (λ k. f k || g k) slot (earlier (Some n) (Some m))
     go true test =
         let less : m < n = ltb-true m n test in
         rw (test, earlier) (first_at m i (rw (p m i less, d)) (λ k l b. rw (p k l (omega arith), q k l b)))

@@ -2,9 +2,24 @@
 // and the part that is lent for a slot, proofs/ their laws.
 #![tactic(auto)]
 
-// The next slot that a recording or a pair has, if there is one.
-#[derive(Clone, Copy)]
-pub enum Next {
-    At(u32),
-    Nothing,
+ghost use Rattle.std.specs.Prelude.{◌≡◌};
+ghost use Rattle.aerials.specs.Causes.{pair_number};
+
+// Why a pair is refused, in the order of checking, each with its number.
+#[derive(Clone, Copy, Debug, PartialEq, Eq)]
+pub enum PairCause {
+    BadSettings = 1,
+    BadLength = 2,
+    OtherMark = 4,
+    OtherSettings = 5,
+    NotRising = 9,
+    Unlike = 10,
+}
+
+impl From<PairCause> for u32 {
+    ghost from_gives = { λ c n. n ≡ pair_number c };
+
+    fn from(c: PairCause) -> u32 {
+        c as u32
+    }
 }

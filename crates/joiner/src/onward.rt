@@ -6,42 +6,34 @@ ghost use Rattle.aerials.specs.Next.{next_in, earlier, next_of};
 
 use crate::frame::{frame_of, frames_in};
 use crate::search::below;
-use aerials::Next;
 use code::Settings;
 use frames::slot_of;
 
 // The next slot, from this one on, that a recording has.
-fn next_in(s: Settings, recording: &[u8], slot: u32) -> Next
+fn next_in(s: Settings, recording: &[u8], slot: u32) -> Option<u32>
     requires { Rising s recording.now }
     ensures { result ≡ next_in s recording.now slot }
 {
     let n = below(s, recording, slot);
-    if frames_in(s, recording) <= n {
-        return Next::Nothing;
+    if n < frames_in(s, recording) {
+        Some(slot_of(frame_of(s, recording, n)))
+    } else {
+        None
     }
-    Next::At(slot_of(frame_of(s, recording, n)))
 }
 
 // The earlier of two slots, where there are two.
-fn earlier(a: Next, b: Next) -> Next
+fn earlier(a: Option<u32>, b: Option<u32>) -> Option<u32>
     ensures { result ≡ earlier a b }
 {
-    match a {
-        Next::Nothing => b,
-        Next::At(x) => match b {
-            Next::Nothing => Next::At(x),
-            Next::At(y) => {
-                if y < x {
-                    return Next::At(y);
-                }
-                Next::At(x)
-            }
-        },
+    match (a, b) {
+        (Some(x), Some(y)) => Some(x.min(y)),
+        _ => a.or(b),
     }
 }
 
 // The next slot, from this one on, that either recording of an accepted pair has.
-pub fn next_slot(s: Settings, first: &[u8], second: &[u8], slot: u32) -> Next
+pub fn next_slot(s: Settings, first: &[u8], second: &[u8], slot: u32) -> Option<u32>
     requires { pair_cause s first.now second.now ≡ 0 }
     ensures { result ≡ next_of s first.now second.now slot }
 {

@@ -16,7 +16,7 @@ use Rattle.protocol.specs.Calls.{opened_rows, Reported}
 use Rattle.protocol.specs.TwoLists.{Report, report_of}
 use Rattle.protocol.proofs.ReportChain.{opened_receiver_lem}
 use Rattle.lines.proofs.TextLaws.{written_text}
-use Rattle.aerials.specs.declared.Next.TheVariants.{At}
+use Rattle.std.specs.Prelude.{Some}
 use Rattle.aerials.specs.Pair.{pair_cause}
 use Rattle.aerials.specs.Next.{next_of}
 use Rattle.aerials.proofs.PairLaws.{checked}
@@ -81,7 +81,7 @@ module _ (first second : List ℕ) (line : ℕ → List ℕ) (offset : ℕ) wher
 
   -- where a slot is next: too far off, and the line of 6 is the end; or the slot due is reported, and the next m slots come after it
   slot_steps : (m i : ℕ) (x : Receiver) (rows message : List ℕ) → pair_cause x.settings first second ≡ 0
-      → (n : ℕ) → next_of x.settings first second x.due ≡ At n
+      → (n : ℕ) → next_of x.settings first second x.due ≡ Some n
       → ((rows' message' : List ℕ) → Fed m (suc i) (reported_on x) rows' message') → Fed (suc m) i x rows message
   unfolding fed_on stop_act
   slot_steps m i x rows message accepted n next after =

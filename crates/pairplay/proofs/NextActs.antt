@@ -19,7 +19,7 @@ use Rattle.protocol.specs.Causes.{agree, header_cause}
 use Rattle.protocol.specs.TwoLists.{Report, heard, missed, report_of}
 use Rattle.protocol.proofs.CauseTables.{fails}
 use Rattle.frames.specs.Fields.{slot_in}
-use Rattle.aerials.specs.declared.Next.TheVariants.{At}
+use Rattle.std.specs.Prelude.{Some}
 use Rattle.aerials.specs.Pair.{frame_of, slot_of, pair_cause}
 use Rattle.aerials.specs.Parts.{of_aerial}
 use Rattle.aerials.proofs.FrameLaws.{frame_long}
@@ -93,11 +93,11 @@ module _ (s : Settings) (first second : List ℕ) (accepted : pair_cause s first
 
 module _ (p : Player) (first second rows message : List ℕ) (accepted : pair_cause p.receiver.settings first second ≡ 0) where
   -- the act of the part that the pair lends
-  lent_act : (n : ℕ) → next_slot p first second ≡ At n
+  lent_act : (n : ℕ) → next_slot p first second ≡ Some n
       → pair_act p first second rows message ≡ frame_act p (lent p.receiver.settings first second n) p.offset rows message
   lent_act n e = rw (join_accepted p.receiver.settings first second n accepted) (pair_frame p first second rows message n e)
 
-  module _ (n : ℕ) (next : next_slot p first second ≡ At n) where
+  module _ (n : ℕ) (next : next_slot p first second ≡ Some n) where
     -- the next slot is the first that either has
     abbrev found : (p.receiver.due ≤ n) × (either p.receiver.settings first second n ≡ true)
         × ((k : ℕ) → p.receiver.due ≤ k → k < n → either p.receiver.settings first second k ≡ false)

@@ -9,8 +9,7 @@ use native.Mathlib.Nat.{lt-suc_self, not-suc-le-zero}
 use native.Mathlib.Omega.{arith}
 use Rattle.galois.proofs.Cases.{is_true, is_false, or_cases, or_right, at, all-below, le_or_lt}
 use Rattle.code.specs.declared.settings.Settings.{Settings}
-use Rattle.aerials.specs.declared.Next.{Next}
-use Rattle.aerials.specs.declared.Next.TheVariants.{At, Nothing}
+use Rattle.std.specs.Prelude.{Option, Some, None}
 use Rattle.aerials.specs.Pair.{frames_in, slot_of, has, pair_cause}
 use Rattle.aerials.specs.Sound.{Rising}
 use Rattle.aerials.specs.Next.{next_of}
@@ -77,32 +76,32 @@ module _ (s : Settings) (first second : List ℕ) (slot : ℕ) where
 
 module _ (s : Settings) (first second : List ℕ) (accepted : pair_cause s first second ≡ 0) (slot : ℕ) where
   -- it is the first from a slot on that either has
-  pub next_found : (n : ℕ) → next_of s first second slot ≡ At n
+  pub next_found : (n : ℕ) → next_of s first second slot ≡ Some n
       → (slot ≤ n) × (either s first second n ≡ true) × ((k : ℕ) → slot ≤ k → k < n → either s first second k ≡ false)
   next_found n e = found_at (rw e at (next_of_lem s first second (checked s first second accepted) slot))
 
   -- so where there is one, the slot is not past the last
-  pub next_within : (n : ℕ) → next_of s first second slot ≡ At n → slot < slots_of s first second
+  pub next_within : (n : ℕ) → next_of s first second slot ≡ Some n → slot < slots_of s first second
   next_within n e =
       let found = next_found n e in
       omega (arith, either_within s first second n (checked s first second accepted) found.1)
 
   -- past the last there is none
-  pub next_none : slots_of s first second ≤ slot → next_of s first second slot ≡ Nothing
+  pub next_none : slots_of s first second ≤ slot → next_of s first second slot ≡ None
   next_none past = go (next_of s first second slot) refl
     where
-      go : (x : Next) → next_of s first second slot ≡ x → next_of s first second slot ≡ Nothing
-      go Nothing e = e
-      go (At n) e = let before = next_within n e in absurd (omega arith)
+      go : (x : Option ℕ) → next_of s first second slot ≡ x → next_of s first second slot ≡ None
+      go None e = e
+      go (Some n) e = let before = next_within n e in absurd (omega arith)
 
   -- and up to it there is one
-  pub next_some : slot < slots_of s first second → (n : ℕ) × (next_of s first second slot ≡ At n)
+  pub next_some : slot < slots_of s first second → (n : ℕ) × (next_of s first second slot ≡ Some n)
   next_some before =
       let (k, onward, e) = either_from s first second slot before in
       go k onward e (next_of s first second slot) refl (next_of_lem s first second (checked s first second accepted) slot)
     where
-      go : (k : ℕ) → slot ≤ k → either s first second k ≡ true → (x : Next) → next_of s first second slot ≡ x
-          → FirstFrom (either s first second) slot x → (n : ℕ) × (next_of s first second slot ≡ At n)
+      go : (k : ℕ) → slot ≤ k → either s first second k ≡ true → (x : Option ℕ) → next_of s first second slot ≡ x
+          → FirstFrom (either s first second) slot x → (n : ℕ) × (next_of s first second slot ≡ Some n)
       go k onward e x is (FirstFrom.none never) = absurd (true≢false (sym e ∙ never k onward))
       go k onward e x is (FirstFrom.first_at n l has earlier) = (n, is)
 

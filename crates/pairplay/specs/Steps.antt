@@ -1,8 +1,7 @@
 -- A pair played in steps: how it starts, and one step as a function of the player, its rows and its message buffer.
-use Rattle.std.specs.Prelude.{true, false, List, ℕ, zero, suc, ◌+◌, eqb, length}
+use Rattle.std.specs.Prelude.{true, false, List, ℕ, zero, suc, ◌+◌, eqb, length, Some, None}
 use Rattle.code.specs.declared.settings.Settings.{Settings}
 use Rattle.frames.specs.Fields.{settings_in}
-use Rattle.aerials.specs.declared.Next.TheVariants.{At, Nothing}
 use Rattle.aerials.specs.Parts.{bytes_of, part_of}
 use Rattle.aerials.specs.Next.{next_of}
 use Rattle.progress.specs.declared.Player.{Player}
@@ -26,8 +25,8 @@ unfoldable pub pair_act : Player → List ℕ → List ℕ → List ℕ → List
 pair_act p first second rows message =
     let s : Settings = p.receiver.settings in
     elim (next_of s first second p.receiver.due) [
-      | Nothing ↦ end_act p rows message
-      | At slot ↦ frame_act p (bytes_of first second (part_of s first second slot)) p.offset rows message
+      | None ↦ end_act p rows message
+      | Some slot ↦ frame_act p (bytes_of first second (part_of s first second slot)) p.offset rows message
     ]
 
 -- on a lent line

@@ -5,7 +5,7 @@ use mathlib.Core.List.{List}
 use Prim.Native.Nat.{ℕ, ◌≤◌}
 use lib.ListN.{length}
 use Rattle.code.specs.declared.settings.Settings.{Settings}
-use Rattle.aerials.specs.declared.Next.TheVariants.{At}
+use Rattle.std.specs.Prelude.{Some}
 use Rattle.aerials.specs.Pair.{frame_of, has, pair_cause}
 use Rattle.aerials.specs.Sound.{Rising, Checked}
 use Rattle.aerials.specs.Parts.{below, bytes_of, part_of}
@@ -30,7 +30,7 @@ module _ (s : Settings) (first second : List ℕ) (pair : Checked s first second
   long_by false false a-is b-is either = absurd (true≢false (sym either))
 
 -- the part that is lent for the next slot has a header
-pub lent_long : (s : Settings) (first second : List ℕ) → pair_cause s first second ≡ 0 → (slot n : ℕ) → next_of s first second slot ≡ At n
+pub lent_long : (s : Settings) (first second : List ℕ) → pair_cause s first second ≡ 0 → (slot n : ℕ) → next_of s first second slot ≡ Some n
     → 14 ≤ length (bytes_of first second (part_of s first second n))
 lent_long s first second accepted slot n e =
     let pair = checked s first second accepted in

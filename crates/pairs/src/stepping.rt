@@ -4,7 +4,6 @@ ghost use Rattle.aerials.specs.Pair.{pair_cause};
 ghost use Rattle.reporting.specs.Outcomes.{outcome};
 ghost use Rattle.pairplay.specs.Steps.{pair_step_of};
 
-use aerials::Next;
 use joiner::{next_slot, part};
 use progress::{Player, Progress};
 use reporting::at_frame;
@@ -25,12 +24,12 @@ pub fn step<'a>(
     let x = p.receiver;
     let s = x.settings;
     match next_slot(s, first, second, x.due) {
-        Next::Nothing => Progress {
+        None => Progress {
             player: p,
             len: 0,
             over: true,
         },
-        Next::At(slot) => {
+        Some(slot) => {
             let frame = part(s, first, second, slot);
             at_frame(p, frame, p.offset, rows, message, line)
         }

@@ -1,42 +1,30 @@
--- Each case is one of the definition's.
-use borrow.Author.Tests.{lt-ltb, le-ltb}
-use mathlib.Core.Path.{◌≡◌}
-use Prim.Native.Nat.{ℕ, ◌≤◌, ◌<◌}
-use Rattle.aerials.specs.declared.Next.{Next}
-use Rattle.aerials.specs.declared.Next.TheVariants.{At, Nothing}
+-- Both have a slot, or at most one has.
+use borrow.Author.Tests.{ltb-true, ltb-false}
+use mathlib.Core.Path.{◌≡◌, refl}
+use mathlib.Core.Bool.{Bool, true, false}
+use native.Mathlib.Omega.{arith}
+use Prim.Native.Nat.{ℕ, min}
+use lib.Dec.{ltb}
+use Rattle.std.specs.Prelude.{Option, Some, None}
 use Rattle.aerials.specs.Next.{earlier}
 use Rattle.joiner.proofs.onward.earlier.Goals as goal
+use Rattle.joiner.proofs.onward.earlier.Goals.{in_default-via-in-Some+in_default, in_default-via-in_default}
 
-module _ (a b : Next) where
-  -- by what they are
-  none_first : a ≡ Nothing → b ≡ earlier a b
-  unfolding earlier
-  none_first e = rw e
+both : (a b : Option ℕ) (x y : ℕ) → a ≡ Some x → b ≡ Some y → Some (min x y) ≡ earlier a b
+unfolding earlier
+both a b x y e f = go (ltb y x) refl
+  where
+    go : (t : Bool) → ltb y x ≡ t → Some (min x y) ≡ earlier a b
+    go true is = let least : min x y ≡ y = omega (arith, ltb-true y x is) in rw (e, f, earlier, is, least)
+    go false is = let least : min x y ≡ x = omega (arith, ltb-false y x is) in rw (e, f, earlier, is, least)
 
-  none_second : (x : ℕ) → a ≡ At x → b ≡ Nothing → At x ≡ earlier a b
-  unfolding earlier
-  none_second x e f = rw (e, f)
+pub returns-in-Some-Some : goal.returns-in-Some-Some
+returns-in-Some-Some c = rw c.min.ensures (both c.args.a c.args.b _ _ c.in-Some-Some.is-0 c.in-Some-Some.is-1)
 
-  second : (x y : ℕ) → a ≡ At x → b ≡ At y → y < x → At y ≡ earlier a b
-  unfolding earlier
-  second x y e f h = rw (e, f, earlier, lt-ltb y x h)
-
-  first : (x y : ℕ) → a ≡ At x → b ≡ At y → x ≤ y → At x ≡ earlier a b
-  unfolding earlier
-  first x y e f h = rw (e, f, earlier, le-ltb y x h)
-
-pub returns-then-y-x : goal.returns-then-y-x
-returns-then-y-x c =
-    second c.args.a c.args.b _ _ c.in-At.is c.in-At-b.is c.if-y-x.true
-
-pub returns-in-Nothing : goal.returns-in-Nothing
-returns-in-Nothing c =
-    none_first c.args.a c.args.b c.in-Nothing.is
-
-pub returns-in-Nothing-b : goal.returns-in-Nothing-b
-returns-in-Nothing-b c =
-    none_second c.args.a c.args.b _ c.in-At.is c.in-Nothing-b.is
-
-pub returns-else-y-x : goal.returns-else-y-x
-returns-else-y-x c =
-    first c.args.a c.args.b _ _ c.in-At.is c.in-At-b.is c.if-y-x.false
+pub returns-in_default : goal.returns-in_default
+unfolding earlier
+returns-in_default c =
+    elim c.in_default.branch [
+      | in_default-via-in-Some+in_default w ↦ rw (c.or.ensures, w.in_default.is-0, w.in_default.is-1)
+      | in_default-via-in_default w ↦ rw (c.or.ensures, w.in_default.is-0)
+    ]

@@ -6,7 +6,7 @@ use native.Mathlib.Omega.{arith}
 use Prim.Native.Nat.{ℕ, ◌<◌}
 use Rattle.code.specs.declared.settings.Settings.{Settings}
 use Rattle.frames.specs.Fields.{slot_in}
-use Rattle.aerials.specs.declared.Next.TheVariants.{At}
+use Rattle.std.specs.Prelude.{Some}
 use Rattle.aerials.specs.Pair.{frames_in, slot_of}
 use Rattle.aerials.specs.Parts.{below}
 use Rattle.aerials.specs.Next.{next_in}
@@ -14,29 +14,29 @@ use Rattle.aerials.proofs.FrameLaws.{header_inside}
 use Rattle.joiner.proofs.onward.next_in.Goals as goal
 
 found : (s : Settings) (recording : List ℕ) (slot n m : ℕ) → n ≡ below s recording slot → n < frames_in s recording
-    → m ≡ slot_of s recording n → At m ≡ next_in s recording slot
+    → m ≡ slot_of s recording n → Some m ≡ next_in s recording slot
 unfolding next_in
 found s recording slot n m place inside is =
     let before : below s recording slot < frames_in s recording = omega arith in
-    rw (lt-ltb (below s recording slot) (frames_in s recording) before, next_in) (ap At (is ∙ ap (slot_of s recording) place))
+    rw (lt-ltb (below s recording slot) (frames_in s recording) before, next_in) (ap Some (is ∙ ap (slot_of s recording) place))
 
-pub returns-then-frames_in-n : goal.returns-then-frames_in-n
+pub returns-else-n-frames_in : goal.returns-else-n-frames_in
 unfolding next_in
-returns-then-frames_in-n c =
+returns-else-n-frames_in c =
     rw (
       le-ltb (below c.args.s c.args.recording.now c.args.slot) (frames_in c.args.s c.args.recording.now)
-          (omega (arith, c.if-frames_in-n.true, c.frames_in.ensures, c.below-n.ensures)),
+          (omega (arith, c.if-n-frames_in.false, c.frames_in.ensures, c.below-n.ensures)),
       next_in,
     )
 
 pub slot_of-requires : goal.slot_of-requires
 slot_of-requires c =
-    let inside : c.below-n.result < frames_in c.args.s c.args.recording.now = omega (arith, c.if-frames_in-n.false, c.frames_in.ensures) in
+    let inside : c.below-n.result < frames_in c.args.s c.args.recording.now = omega (arith, c.if-n-frames_in.true, c.frames_in.ensures) in
     header_inside c.args.s c.args.recording.now c.below-n.result (inside) _ c.frame_of.ensures.bytes
 
-pub returns : goal.returns
+pub returns-then-n-frames_in : goal.returns-then-n-frames_in
 unfolding slot_of
-returns c =
-    let inside : c.below-n.result < frames_in c.args.s c.args.recording.now = omega (arith, c.if-frames_in-n.false, c.frames_in.ensures) in
+returns-then-n-frames_in c =
+    let inside : c.below-n.result < frames_in c.args.s c.args.recording.now = omega (arith, c.if-n-frames_in.true, c.frames_in.ensures) in
     found c.args.s c.args.recording.now c.args.slot c.below-n.result c.slot_of.result c.below-n.ensures (inside)
     (c.slot_of.ensures ∙ ap slot_in c.frame_of.ensures.bytes)
