@@ -6,7 +6,7 @@ ghost use Rattle.galois.specs.Byte.{quotient, Reciprocals};
 ghost use Rattle.galois.specs.Table.{table};
 ghost use Rattle.elimination.specs.Elimination.{pivot_from, cleared, column_step, left_flag};
 
-use gf256::{Gf256, Reciprocal};
+use gf256::Gf256;
 use multiples::{quarters, row_by, row_times};
 
 // The first row below k that is free and not 0 at position p, or 16.
@@ -35,8 +35,8 @@ fn scaled(row: [u8; 16], p: usize, reciprocals: &[u8; 256]) -> [u8; 16]
         return row;
     }
     match Gf256(row[p]).reciprocal_in(reciprocals) {
-        Reciprocal::None => [0; 16],
-        Reciprocal::Element(inverse) => row_times(row, inverse.0),
+        None => [0; 16],
+        Some(inverse) => row_times(row, inverse.0),
     }
 }
 

@@ -14,15 +14,6 @@ const NARROW_RECIPROCALS: [u8; 16] = [0, 1, 9, 14, 13, 11, 7, 6, 15, 2, 12, 5, 1
 #[derive(Clone, Copy)]
 pub struct Gf16(pub u8);
 
-// The reciprocal of a narrow number.
-#[derive(Clone, Copy)]
-pub enum Reciprocal {
-    // Of 0, and of a number above 15.
-    None,
-    // Of any other.
-    Element(Gf16),
-}
-
 impl Gf16 {
     // The 8 of α × α = α + 8.
     pub const EIGHT: Gf16 = Gf16(8);
@@ -69,26 +60,23 @@ impl Gf16 {
         Gf16(replaced(sum))
     }
 
-    pub fn reciprocal(self) -> Reciprocal
+    // None for 0, and for a number above 15.
+    pub fn reciprocal(self) -> Option<Gf16>
         ensures { answered result ≡ narrow_reciprocal self.0 }
     {
         let number = self.0;
-        if number == 0 {
-            return Reciprocal::None;
+        if number == 0 || 15 < number {
+            return None;
         }
-        if 15 < number {
-            return Reciprocal::None;
-        }
-        let table = reciprocals();
-        Reciprocal::Element(Gf16(table[number as usize]))
+        Some(Gf16(reciprocals()[number as usize]))
     }
 
     pub fn quotient(self, other: Gf16) -> Gf16
         ensures { result.0 ≡ narrow_quotient self.0 other.0 }
     {
         match other.reciprocal() {
-            Reciprocal::None => Gf16(0),
-            Reciprocal::Element(inverse) => self.product(inverse),
+            None => Gf16(0),
+            Some(inverse) => self.product(inverse),
         }
     }
 }

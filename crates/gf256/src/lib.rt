@@ -14,15 +14,6 @@ use tables::RECIPROCALS;
 #[derive(Clone, Copy)]
 pub struct Gf256(pub u8);
 
-// The reciprocal of a byte.
-#[derive(Clone, Copy)]
-pub enum Reciprocal {
-    // Of 0.
-    None,
-    // Of any other.
-    Element(Gf256),
-}
-
 impl Gf256 {
     pub const ALPHA: Gf256 = Gf256(16);
 
@@ -60,31 +51,31 @@ impl Gf256 {
         Gf256::ALPHA.product(self)
     }
 
-    pub fn reciprocal(self) -> Reciprocal
+    // None for 0.
+    pub fn reciprocal(self) -> Option<Gf256>
         ensures { answered result ≡ reciprocal self.0 }
     {
-        let table = reciprocals();
-        self.reciprocal_in(&table)
+        self.reciprocal_in(&reciprocals())
     }
 
     // The same by a lent table, which is looked up for 1 to 255 only.
-    pub fn reciprocal_in(self, table: &[u8; 256]) -> Reciprocal
+    pub fn reciprocal_in(self, table: &[u8; 256]) -> Option<Gf256>
         requires { Reciprocals table.now }
         ensures { answered result ≡ reciprocal self.0 }
     {
         let x = self.0;
         if x == 0 {
-            return Reciprocal::None;
+            return None;
         }
-        Reciprocal::Element(Gf256(table[x as usize]))
+        Some(Gf256(table[x as usize]))
     }
 
     pub fn quotient(self, other: Gf256) -> Gf256
         ensures { result.0 ≡ quotient self.0 other.0 }
     {
         match other.reciprocal() {
-            Reciprocal::None => Gf256(0),
-            Reciprocal::Element(inverse) => self.product(inverse),
+            None => Gf256(0),
+            Some(inverse) => self.product(inverse),
         }
     }
 

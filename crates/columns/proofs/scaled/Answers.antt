@@ -17,7 +17,7 @@ pub returns-in-None : goal.returns-in-None
 returns-in-None c =
     row_zeros c.args.row _ (sym c.reciprocal_in.ensures ∙ ap answered c.in-None.is)
 
-pub returns-in-Element : goal.returns-in-Element
-returns-in-Element c =
+pub returns-in-Some : goal.returns-in-Some
+returns-in-Some c =
     c.row_times.ensures
-    ∙ row_divided c.args.row _ _ (sym c.reciprocal_in.ensures ∙ ap answered c.in-Element.is)
+    ∙ row_divided c.args.row _ _ (sym c.reciprocal_in.ensures ∙ ap answered c.in-Some.is)

@@ -9,6 +9,6 @@ pub returns-in-None : goal.returns-in-None
 returns-in-None c =
     sym (by_none bytes _ _ (sym c.reciprocal.ensures ∙ ap answered c.in-None.is))
 
-pub returns-in-Element : goal.returns-in-Element
-returns-in-Element c =
-    c.product.ensures ∙ sym (by_element bytes _ _ _ (sym c.reciprocal.ensures ∙ ap answered c.in-Element.is))
+pub returns-in-Some : goal.returns-in-Some
+returns-in-Some c =
+    c.product.ensures ∙ sym (by_element bytes _ _ _ (sym c.reciprocal.ensures ∙ ap answered c.in-Some.is))
