@@ -22,6 +22,10 @@ module _ (s : Settings) where
   unfolding receiver_len
   row_ends r h = omega (arith, mul-le-mul_right (row_len s) h, suc-mul r (row_len s))
 
+  -- that of a slot due among them
+  pub due_ends : (due : ℕ) → due % row_count s * row_len s + row_len s ≤ receiver_len s
+  due_ends due = row_ends (due % row_count s) (mod-lt due some_row)
+
   -- a row that is written keeps the rows' length
   pub kept : (due : ℕ) (rows row : List ℕ) → length rows ≡ receiver_len s → length row ≡ row_len s
       → length (put_row (row_len s) (due % row_count s) row rows) ≡ receiver_len s
