@@ -1,12 +1,12 @@
 // Text on its way to a writer. A write that fails ends the output: nothing more is written, and the error is told at the end.
 #![tactic(auto)]
 
-ghost use Rattle.std.specs.Prelude.{◌≡◌, ◌/◌, ◌%◌, [], ◌∷◌, false, IsOk, OnOk, OnErr, decimal};
+ghost use Rattle.std.specs.Prelude.{◌≡◌, ◌/◌, ◌%◌, [], ◌∷◌, false, IsOk, OnOk, OnErr, IfSome, decimal};
 ghost use Rattle.std.specs.Fmt.{digit_glyph};
 ghost use Rattle.std.specs.Io.KnownBytes.{Appends};
 
-use std::io;
-use std::io::Write;
+use std::fmt::Display;
+use std::io::{self, Write};
 
 // A writer, and how the writes went so far.
 #[derive(Drop)]
@@ -33,6 +33,19 @@ impl<W: Write> Output<W> {
     {
         if self.written.is_ok() {
             self.written = self.writer.write_all(bytes);
+        }
+    }
+
+    // A format, by `write!`.
+    pub fn write_fmt<D: Display>(&mut self, text: D)
+    where
+        D: Drop,
+        ensures written { OnOk self.new.written (IfSome (D.output text)
+            (Appends (W.contents self.old.writer) (W.contents self.new.writer))) }
+        ensures ended { OnErr self.old.written (self.new ≡ self.old) }
+    {
+        if self.written.is_ok() {
+            self.written = self.writer.write_fmt(text);
         }
     }
 
