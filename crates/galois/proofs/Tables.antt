@@ -1,5 +1,5 @@
 -- A table of reciprocals, of either field: one test over the whole of it, which passes over entry 0.
-use mathlib.Core.Path.{◌≡◌, subst}
+use mathlib.Core.Path.{◌≡◌, refl, subst}
 use mathlib.Core.Bool.{Bool, true, false, ◌&&◌}
 use mathlib.Core.List.{List, [], ◌∷◌}
 use Prim.Native.Nat.{ℕ, zero, suc, ◌+◌, ◌<◌}
@@ -7,7 +7,9 @@ use native.Mathlib.Nat.{le_of_suc-le-suc, not-suc-le-zero}
 use native.Mathlib.Omega.{arith}
 use lib.Dec.{T, eqb, ltb, eqb→eq, ltb→lt}
 use lib.ListN.{length, get_or}
-use Rattle.galois.specs.Reciprocal.{Reciprocal, Listed}
+use Rattle.std.specs.Coded.{Coded, Coded-set, coded_ℕ, coded_option, code_by, Π_prop, →_prop}
+use Rattle.std.specs.Prelude.{Option, None, Some}
+use Rattle.galois.specs.Reciprocal.{Reciprocal, none, element, Listed}
 use Rattle.galois.proofs.Cases.{and_left, and_right}
 use Rattle.galois.proofs.Field.{Field, only_reciprocal}
 
@@ -51,3 +53,25 @@ reciprocals_listed {bound} {plus} {times} F (_ ∷ rest) rule (suc y) low high =
     entry_inverts bound times rest 1 y (suc y) (and_right long (inverts_from bound times 1 rest) rule) (omega arith) (omega arith) in
     only_reciprocal F (suc y) r high (ltb→lt r bound (and_left (ltb r bound) (eqb (times (suc y) r) 1) good))
     (eqb→eq (times (suc y) r) 1 (and_right (ltb r bound) (eqb (times (suc y) r) 1) good))
+
+-- ---- a type may hold the fact that a list is a table of reciprocals, since it has one proof at most
+
+option_of : Reciprocal → Option ℕ
+option_of none = None
+option_of (element x) = Some x
+
+answer_of : Option ℕ → Reciprocal
+answer_of None = none
+answer_of (Some x) = element x
+
+answer_again : (r : Reciprocal) → answer_of (option_of r) ≡ r
+unfolding answer_of option_of
+answer_again none = refl
+answer_again (element x) = refl
+
+answers : Coded Reciprocal
+answers = code_by (Option ℕ) (coded_option coded_ℕ) option_of answer_of answer_again
+
+pub listed_prop : (bound : ℕ) (reciprocal : ℕ → Reciprocal) (t : List ℕ) → IsProp (Listed bound reciprocal t)
+unfolding Listed
+listed_prop bound reciprocal t = Π_prop (λ y. →_prop (→_prop (Coded-set answers _ _)))

@@ -5,6 +5,7 @@ mod tables;
 
 ghost use Rattle.std.specs.Prelude.{◌≡◌};
 ghost use Rattle.galois.specs.Byte.{◌⊕◌, ◌⊗◌, alpha, reciprocal, quotient, Reciprocals, high, low, byte, widen};
+ghost use Rattle.galois.proofs.Tables.{listed_prop};
 ghost use Rattle.gf256.specs.Answer.{answered};
 
 use gf16::Gf16;
@@ -115,4 +116,27 @@ pub fn reciprocals() -> [u8; 256]
     ensures { Reciprocals result }
 {
     RECIPROCALS
+}
+
+// The table of reciprocals, made once and lent to all that divide.
+pub struct ReciprocalTable {
+    pub entries: [u8; 256],
+    pub ghost listed: { Reciprocals entries } by { listed_prop 256 reciprocal entries },
+}
+
+impl ReciprocalTable {
+    pub fn new() -> ReciprocalTable
+        ensures { Reciprocals result.entries }
+    {
+        ReciprocalTable {
+            entries: reciprocals(),
+        }
+    }
+
+    // None for 0.
+    pub fn reciprocal(&self, number: Gf256) -> Option<Gf256>
+        ensures { answered result ≡ reciprocal number.0 }
+    {
+        number.reciprocal_in(&self.entries)
+    }
 }
