@@ -12,7 +12,7 @@ pub struct Reader<'a> {
     pub offset: usize,
 }
 
-// What stands at an offset of a recording.
+// What stands at an offset of a recording. An Option would have one case for a part and for the end.
 #[derive(Clone, Copy)]
 pub enum Found {
     // A whole frame, by the places where it starts and where the next one would.
@@ -28,46 +28,42 @@ fn frame_at(recording: &[u8], offset: usize, size: usize) -> Found
     ensures { result ≡ found_at recording.now offset size }
 {
     if recording.len() <= offset {
-        return Found::End;
-    }
-    if size == 0 {
-        return Found::Part;
-    }
-    if recording.len() - offset < size {
-        return Found::Part;
-    }
-    Found::Frame {
-        start: offset,
-        end: offset + size,
+        Found::End
+    } else if size == 0 || recording.len() - offset < size {
+        Found::Part
+    } else {
+        Found::Frame {
+            start: offset,
+            end: offset + size,
+        }
     }
 }
 
-// A reader at the start of a recording.
-pub fn from_start<'a>(recording: &'a [u8]) -> Reader<'a>
-    ensures recording { result.recording ≡ recording.entry }
-    ensures offset { result.offset ≡ 0 }
-{
-    Reader {
-        recording,
-        offset: 0,
+impl<'a> Reader<'a> {
+    // A reader at the start of a recording.
+    pub fn from_start(recording: &'a [u8]) -> Reader<'a>
+        ensures recording { result.recording ≡ recording.entry }
+        ensures offset { result.offset ≡ 0 }
+    {
+        Reader {
+            recording,
+            offset: 0,
+        }
     }
-}
 
-// What stands where a reader is, for frames of a size.
-pub fn next<'a>(r: Reader<'a>, size: usize) -> Found
-    ensures { result ≡ found_at r.entry.recording.now r.entry.offset size }
-{
-    frame_at(r.recording, r.offset, size)
-}
+    // What stands where a reader is, for frames of a size.
+    pub fn next(self, size: usize) -> Found
+        ensures { result ≡ found_at self.entry.recording.now self.entry.offset size }
+    {
+        frame_at(self.recording, self.offset, size)
+    }
 
-// The same recording, read from another offset.
-pub fn moved<'a>(r: Reader<'a>, offset: usize) -> Reader<'a>
-    ensures recording { result.recording ≡ r.entry.recording }
-    ensures offset { result.offset ≡ offset }
-{
-    Reader {
-        recording: r.recording,
-        offset,
+    // The same recording, read from another offset.
+    pub fn moved(self, offset: usize) -> Reader<'a>
+        ensures recording { result.recording ≡ self.entry.recording }
+        ensures offset { result.offset ≡ offset }
+    {
+        Reader { offset, ..self }
     }
 }
 
@@ -75,5 +71,5 @@ pub fn moved<'a>(r: Reader<'a>, offset: usize) -> Reader<'a>
 pub fn next_frame(recording: &[u8], offset: usize, size: usize) -> Found
     ensures { result ≡ found_at recording.now offset size }
 {
-    next(moved(from_start(recording), offset), size)
+    Reader::from_start(recording).moved(offset).next(size)
 }

@@ -1,21 +1,17 @@
 -- At each way out, the tests that led there say which case of the definition holds.
-use mathlib.Core.Path.{sym}
-use native.Mathlib.Omega.{arith}
-use Rattle.recording.proofs.FoundLaws.{end_stands, none_stands, part_stands, frame_stands}
+use Rattle.std.proofs.Common.{arith}
+use Rattle.std.proofs.lemmas.Bool.Decides.{nat_tests}
+use Rattle.recording.specs.Found.{found_at}
 use Rattle.recording.proofs.frame_at.Goals as goal
 
 pub returns-then-recording-offset : goal.returns-then-recording-offset
-returns-then-recording-offset c =
-    sym (end_stands c.args.recording.now c.args.offset c.args.size (omega arith))
-
-pub returns-then-size-eq0 : goal.returns-then-size-eq0
-returns-then-size-eq0 c =
-    sym (none_stands c.args.recording.now c.args.offset c.args.size (omega arith) (omega arith))
+unfolding found_at
+returns-then-recording-offset c = grind (arith, nat_tests)
 
 pub returns-then-recording-offset-2 : goal.returns-then-recording-offset-2
-returns-then-recording-offset-2 c =
-    sym (part_stands c.args.recording.now c.args.offset c.args.size (omega arith) (omega arith) (omega arith))
+unfolding found_at
+returns-then-recording-offset-2 c = grind (arith, nat_tests)
 
-pub returns : goal.returns
-returns c =
-    sym (frame_stands c.args.recording.now c.args.offset c.args.size (omega arith) (omega arith))
+pub returns-else-recording-offset-2 : goal.returns-else-recording-offset-2
+unfolding found_at
+returns-else-recording-offset-2 c = grind (arith, nat_tests)
