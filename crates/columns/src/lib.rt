@@ -1,29 +1,25 @@
 // One position of an elimination: its pivot is looked for, scaled to 1, and cleared from the other rows.
 #![tactic(auto)]
 
-ghost use Rattle.std.specs.Prelude.{◌≡◌, ◌≤◌, ◌<◌, eqb, length, get_or};
+ghost use Rattle.std.specs.Prelude.{◌≡◌, ◌≤◌, ◌<◌, MatchOption, eqb, length, get_or};
 ghost use Rattle.galois.specs.Byte.{quotient, Reciprocals};
 ghost use Rattle.galois.specs.Table.{table};
 ghost use Rattle.elimination.specs.Elimination.{pivot_from, cleared, column_step, left_flag};
 
+use elimination::Reduced;
 use gf256::Gf256;
 use multiples::{quarters, row_by, row_times};
 
-// The first row below k that is free and not 0 at position p, or 16.
-fn pivot_row(rows: &[[u8; 16]], roles: &[u8; 16], p: usize, k: usize) -> usize
-    requires { (p < 16) × (k ≤ 16) × (length rows.now ≡ 16) × (length roles.now ≡ 16) }
-    ensures { result ≡ pivot_from (record { rows = rows.entry.now; roles = roles.now }) p 0 k }
+// The first row below k that is free and not 0 at position p.
+fn pivot_row(reduced: &Reduced, p: usize, k: usize) -> Option<usize>
+    requires { (p < 16) × (k ≤ 16) }
+    ensures { MatchOption result (pivot_from reduced.now p 0 k ≡ 16) (λ r. (r < k) × (pivot_from reduced.now p 0 k ≡ r)) }
 {
-    let mut r: usize = 0;
-    while r < k {
-        if roles[r] == 16 {
-            if rows[r][p] != 0 {
-                return r;
-            }
-        }
-        r += 1;
-    }
-    16
+    (0..k).find(
+        |&r|
+            requires { (r < 16) × (p < 16) }
+        { reduced.roles[r] == 16 && reduced.rows[r][p] != 0 },
+    )
 }
 
 // A row divided by its entry at position p; one that is 1 there stays as it is, and one that is 0 there becomes zeros.
@@ -42,41 +38,38 @@ fn scaled(row: [u8; 16], p: usize, reciprocals: &[u8; 256]) -> [u8; 16]
 
 // Row r is scaled to 1 at position p, which is cleared from every other of the first k rows.
 fn clear_column(rows: &mut [[u8; 16]; 16], r: usize, p: usize, k: usize, reciprocals: &[u8; 256])
-    requires { (r < k) × (p < 16) × (k ≤ 16) × (length rows.old ≡ 16) × Reciprocals reciprocals.now }
+    requires { (r < k) × (p < 16) × (k ≤ 16) × Reciprocals reciprocals.now }
     ensures { rows.new ≡ cleared k rows.old r p }
 {
     let pivot = scaled(rows[r], p, reciprocals);
     let parts = quarters(pivot);
-    let mut q: usize = 0;
-    while q < k {
-        rows[q] = row_by(rows[q], rows[q][p], &parts);
-        q += 1;
+    for row in &mut rows[..k] {
+        *row = row_by(*row, row[p], &parts);
     }
     rows[r] = pivot;
 }
 
 // One position: its pivot, if it is known and some row can be one. Returned is what is left of its flag: 0 if it has become a pivot.
 pub fn column_step(
-    rows: &mut [[u8; 16]; 16],
-    roles: &mut [u8; 16],
+    reduced: &mut Reduced,
     flag: u8,
     p: usize,
     k: usize,
     reciprocals: &[u8; 256],
 ) -> u8
-    requires { (p < 16) × (k ≤ 16) × (length roles.old ≡ 16) × Reciprocals reciprocals.now }
-    ensures step { record { rows = rows.exit.now; roles = roles.new }
-        ≡ column_step k (eqb flag 1) p (record { rows = rows.entry.now; roles = roles.old }) }
-    ensures left { result ≡ left_flag k (eqb flag 1) p (record { rows = rows.entry.now; roles = roles.old }) flag }
+    requires { (p < 16) × (k ≤ 16) × Reciprocals reciprocals.now }
+    ensures step { reduced.new ≡ column_step k (eqb flag 1) p reduced.old }
+    ensures left { result ≡ left_flag k (eqb flag 1) p reduced.old flag }
 {
     if flag != 1 {
         return flag;
     }
-    let r = pivot_row(rows, roles, p, k);
-    if 15 < r {
-        return flag;
+    match pivot_row(reduced, p, k) {
+        None => flag,
+        Some(r) => {
+            clear_column(&mut reduced.rows, r, p, k, reciprocals);
+            reduced.roles[r] = p as u8;
+            0
+        }
     }
-    clear_column(rows, r, p, k, reciprocals);
-    roles[r] = p as u8;
-    0
 }

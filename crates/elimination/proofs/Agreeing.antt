@@ -15,7 +15,8 @@ use Rattle.code.specs.Word.{OfWord, word_at}
 use Rattle.code.specs.Fitting.{Arrived, fits}
 use Rattle.code.proofs.Shape.{Shape}
 use Rattle.code.proofs.Fits.{fits_at, fits_all}
-use Rattle.elimination.specs.Elimination.{cell, free, Reduced, combined, clashes}
+use Rattle.elimination.specs.declared.reduced.Reduced.{Reduced}
+use Rattle.elimination.specs.Elimination.{cell, free, combined, clashes}
 use Rattle.elimination.proofs.Spans.{word}
 use Rattle.elimination.proofs.Pivots.{test_equal}
 use Rattle.elimination.proofs.Invariant.{Pivot, Invariant}

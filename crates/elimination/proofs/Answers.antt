@@ -4,7 +4,8 @@ use mathlib.Core.Bool.{Bool, true, false}
 use Prim.Native.Nat.{ℕ}
 use Rattle.code.specs.declared.settings.Settings.{Settings}
 use Rattle.elimination.specs.declared.lane.Symbol.TheVariants.{Clash, Lost, Whole}
-use Rattle.elimination.specs.Elimination.{Reduced, combined, clashes, differs, symbol_of}
+use Rattle.elimination.specs.declared.reduced.Reduced.{Reduced}
+use Rattle.elimination.specs.Elimination.{combined, clashes, differs, symbol_of}
 
 -- what elimination says of position i
 module _ (s : Settings) (x : Reduced) (known : ℕ → Bool) (byte : ℕ → ℕ) (i : ℕ) where

@@ -15,7 +15,8 @@ use Rattle.code.specs.Word.{word_at}
 use Rattle.code.specs.Fitting.{Arrived, fits}
 use Rattle.code.proofs.Shape.{Shape, shape}
 use Rattle.code.proofs.Fits.{fits_at}
-use Rattle.elimination.specs.Elimination.{cell, free, Reduced, eliminated, combined, clashes, differs}
+use Rattle.elimination.specs.declared.reduced.Reduced.{Reduced}
+use Rattle.elimination.specs.Elimination.{cell, free, eliminated, combined, clashes, differs}
 use Rattle.elimination.proofs.Spans.{word, only, only_below, word_only, word_plus}
 use Rattle.elimination.proofs.Pivots.{test_equal, test_differs}
 use Rattle.elimination.proofs.Invariant.{Invariant, invariant_end}

@@ -16,7 +16,8 @@ use Rattle.code.specs.Matrix.{entry}
 use Rattle.code.specs.Settings.{accepted, k_of, n_of}
 use Rattle.code.specs.Word.{systematic_of}
 use Rattle.code.proofs.Shape.{Shape, shape}
-use Rattle.elimination.specs.Elimination.{cell, free, Reduced, cleared, first_roles, columns, started, eliminated}
+use Rattle.elimination.specs.declared.reduced.Reduced.{Reduced}
+use Rattle.elimination.specs.Elimination.{cell, free, cleared, first_roles, columns, started, eliminated}
 use Rattle.elimination.proofs.Spans.{Spans, spans_trans}
 use Rattle.elimination.proofs.SystematicRows.{systematic_below, source_one, source_zero, systematic_spans}
 use Rattle.elimination.proofs.Steps.{same_or_other, cleared_below, cleared_kept, cleared_one, cleared_zero, cleared_spans}
@@ -154,7 +155,8 @@ module _ (s : Settings) (h : Shape s) (known : ℕ → Bool) (p : ℕ) (hp : p <
           (same_or_other q r);
       free_zeros = λ j hj kj q hq t.
           let ne : q ≢ r = λ same.
-          role_taken (set x.roles r p) r (λ at. let sixteen : p ≡ 16 = sym role_new ∙ at in omega arith) (subst (λ (q : ℕ). T (free (set x.roles r p) q)) same t) in
+          role_taken (set x.roles r p) r (λ at. let sixteen : p ≡ 16 = sym role_new ∙ at in omega arith)
+          (subst (λ (q : ℕ). T (free (set x.roles r p) q)) same t) in
           ⊎_elim
           (λ same. rw same (others q hq ne))
           (λ before. earlier q j hq before kj ∙ i.free_zeros j before kj q hq (role_kept x.roles r p q ne t))

@@ -14,7 +14,8 @@ use Rattle.galois.proofs.Cases.{is_true}
 use Rattle.code.specs.declared.settings.Settings.{Settings}
 use Rattle.code.specs.Settings.{accepted, k_of}
 use Rattle.code.proofs.Shape.{Shape, shape}
-use Rattle.elimination.specs.Elimination.{Reduced, free, pivot_from, column_step, columns, eliminated, started, known_in}
+use Rattle.elimination.specs.declared.reduced.Reduced.{Reduced}
+use Rattle.elimination.specs.Elimination.{free, pivot_from, column_step, columns, eliminated, started, known_in}
 use Rattle.elimination.specs.Elimination.{reduced_from, left_flag, left_after, left_from, Solved}
 use Rattle.elimination.proofs.PivotSearch.{get_d_default}
 use Rattle.elimination.proofs.Steps.{same_or_other}
@@ -58,7 +59,8 @@ pub left_kept : (s : Settings) (x : Reduced) (flags : List ℕ) (e q : ℕ) → 
 unfolding left_after
 left_kept s x flags zero q other = refl
 left_kept s x flags (suc e) q other =
-    get_or-set_other (left_after s x flags e) (k_of s + e) q _ 0 (other e (omega arith)) ∙ left_kept s x flags e q (λ j h. other j (omega arith))
+    get_or-set_other (left_after s x flags e) (k_of s + e) q _ 0 (other e (omega arith))
+    ∙ left_kept s x flags e q (λ j h. other j (omega arith))
 
 -- ---- the positions of pivots
 
@@ -71,7 +73,8 @@ solved_step s h known p x sixteen q at =
     let role : get_or x.roles row 0 ≡ q = at.role in
     let inside : q < 16 = at.inside in
     let taken : T (free x.roles row) → ⊥ =
-    role_taken x.roles row (λ same. let nought : get_or x.roles row 0 ≡ 16 = get_d_default x.roles row 0 16 (omega arith) ∙ same in omega arith) in
+    role_taken x.roles row
+    (λ same. let nought : get_or x.roles row 0 ≡ 16 = get_d_default x.roles row 0 16 (omega arith) ∙ same in omega arith) in
     step_cases (λ (y : Reduced). Solved s y.roles q) (k_of s) known p x (omega arith)
     (λ unknown. at) (λ is_Known none. at)
     (λ is_Known r hr is_free nonzero. record {

@@ -12,7 +12,8 @@ use Rattle.galois.proofs.Cases.{is_true}
 use Rattle.code.specs.declared.settings.Settings.{Settings}
 use Rattle.code.specs.Settings.{accepted, k_of, n_of}
 use Rattle.code.proofs.Shape.{Shape, shape}
-use Rattle.elimination.specs.Elimination.{Reduced, cell, eliminated, known_in, reduced_of}
+use Rattle.elimination.specs.declared.reduced.Reduced.{Reduced}
+use Rattle.elimination.specs.Elimination.{cell, eliminated, known_in, reduced_of}
 use Rattle.elimination.proofs.Steps.{same_or_other}
 use Rattle.elimination.proofs.Roles.{role_taken}
 use Rattle.elimination.proofs.Invariant.{Pivot, invariant_end}

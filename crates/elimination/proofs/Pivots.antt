@@ -9,7 +9,8 @@ use lib.Dec.{T, T_not, eqb}
 use lib.ListN.{set}
 use borrow.Author.Tests.{eq-eqb, eqb-true, lt-ltb}
 use Rattle.galois.proofs.Cases.{and_left, and_right, both_pass}
-use Rattle.elimination.specs.Elimination.{cell, free, Reduced, pivot_from, cleared, pivoted, column_step}
+use Rattle.elimination.specs.declared.reduced.Reduced.{Reduced}
+use Rattle.elimination.specs.Elimination.{cell, free, pivot_from, cleared, pivoted, column_step}
 
 -- ---- the row that becomes the pivot
 

@@ -11,7 +11,8 @@ use Rattle.code.specs.declared.settings.Settings.{Settings}
 use Rattle.code.specs.Settings.{accepted, k_of}
 use Rattle.code.specs.Word.{systematic_of}
 use Rattle.code.proofs.Shape.{Shape, shape}
-use Rattle.elimination.specs.Elimination.{Reduced, column_step, first_roles, columns, started, eliminated, known_in, reduced_from, reduced_of}
+use Rattle.elimination.specs.declared.reduced.Reduced.{Reduced}
+use Rattle.elimination.specs.Elimination.{column_step, first_roles, columns, started, eliminated, known_in, reduced_from, reduced_of}
 use Rattle.elimination.proofs.Terms.{both}
 use Rattle.elimination.proofs.Roles.{first_sixteen}
 use Rattle.elimination.proofs.Pivots.{step_cases}

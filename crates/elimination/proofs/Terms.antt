@@ -13,7 +13,8 @@ use Rattle.galois.specs.Sum.{sum}
 use Rattle.galois.proofs.Cases.{both_pass}
 use Rattle.code.specs.declared.settings.Settings.{Settings}
 use Rattle.code.specs.Settings.{n_of}
-use Rattle.elimination.specs.Elimination.{Reduced, free, cell, known_in}
+use Rattle.elimination.specs.declared.reduced.Reduced.{Reduced}
+use Rattle.elimination.specs.Elimination.{free, cell, known_in}
 
 -- a matrix with the role of each of its rows
 abbrev pub both : List (List ℕ) → List ℕ → Reduced

@@ -10,6 +10,7 @@ use Rattle.code.specs.Word.{systematic_of}
 use Rattle.galois.specs.Table.{table}
 use Rattle.elimination.specs.declared.lane.Symbol.{Symbol}
 use Rattle.elimination.specs.declared.lane.Symbol.TheVariants.{Clash, Lost, Whole}
+use Rattle.elimination.specs.declared.reduced.Reduced.{Reduced}
 
 -- the entry at row r and position p
 unfoldable pub cell : List (List ℕ) → ℕ → ℕ → ℕ
@@ -18,11 +19,6 @@ cell m r p = get_or (get_or m r []) p 0
 -- a row that is no pivot has the role 16; a pivot has its position
 unfoldable pub free : List ℕ → ℕ → Bool
 free roles r = eqb (get_or roles r 16) 16
-
--- a matrix, and the role of each of its rows
-pub record Reduced : Type 0 where
-  pub rows : List (List ℕ)
-  pub roles : List ℕ
 
 -- the first of the m rows from r on that is free and not 0 at position p, or 16
 unfoldable pub pivot_from : Reduced → ℕ → ℕ → ℕ → ℕ

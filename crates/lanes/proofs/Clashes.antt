@@ -15,7 +15,8 @@ use Rattle.vectors.specs.Weighted.{weighted_of}
 use Rattle.code.specs.declared.settings.Settings.{Settings}
 use Rattle.code.specs.Settings.{k_of, n_of}
 use Rattle.code.proofs.Shape.{Shape}
-use Rattle.elimination.specs.Elimination.{Reduced, free, cell, combined, clashes, differs, known_in}
+use Rattle.elimination.specs.declared.reduced.Reduced.{Reduced}
+use Rattle.elimination.specs.Elimination.{free, cell, combined, clashes, differs, known_in}
 use Rattle.elimination.proofs.Terms.{free_differs}
 use Rattle.shares.specs.Shares.{lane_byte}
 use Rattle.shares.proofs.Shares.{Shared}

@@ -19,7 +19,8 @@ use Rattle.vectors.specs.Weighted.{weighted_of}
 use Rattle.code.specs.declared.settings.Settings.{Settings}
 use Rattle.code.specs.Settings.{k_of, n_of}
 use Rattle.code.proofs.Shape.{Shape}
-use Rattle.elimination.specs.Elimination.{Reduced, free, cell, combined}
+use Rattle.elimination.specs.declared.reduced.Reduced.{Reduced}
+use Rattle.elimination.specs.Elimination.{free, cell, combined}
 use Rattle.shares.specs.Shares.{lane_byte, row_byte}
 use Rattle.shares.proofs.Shares.{lane_outside, lane_below, role_row, past_zero, Shared}
 use Rattle.lanes.specs.Lanes.{share, Own, combined_lanes}

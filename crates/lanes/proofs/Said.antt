@@ -4,7 +4,8 @@ use mathlib.Core.Bool.{true, false}
 use mathlib.Core.List.{List}
 use Prim.Native.Nat.{ℕ}
 use Rattle.code.specs.declared.settings.Settings.{Settings}
-use Rattle.elimination.specs.Elimination.{Reduced, differs}
+use Rattle.elimination.specs.declared.reduced.Reduced.{Reduced}
+use Rattle.elimination.specs.Elimination.{differs}
 use Rattle.lanes.specs.Lanes.{Answer, combined_lanes, lanes_clash, lanes_said}
 
 -- a grade, and the L bytes with it

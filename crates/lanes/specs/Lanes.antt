@@ -5,7 +5,8 @@ use Rattle.galois.specs.Byte.{◌⊗◌}
 use Rattle.galois.specs.Table.{table}
 use Rattle.code.specs.declared.settings.Settings.{Settings}
 use Rattle.code.specs.Settings.{k_of}
-use Rattle.elimination.specs.Elimination.{Reduced, free, cell, combined, clashes, differs, known_in}
+use Rattle.elimination.specs.declared.reduced.Reduced.{Reduced}
+use Rattle.elimination.specs.Elimination.{free, cell, combined, clashes, differs, known_in}
 use Rattle.shares.specs.Shares.{lane_byte}
 
 -- row r's share of the combined sum of lane v at position q

@@ -9,7 +9,8 @@ use lib.ListN.{get_or, set}
 use borrow.Author.Tests.{lt-ltb}
 use Rattle.code.specs.declared.settings.Settings.{Settings}
 use Rattle.code.specs.Settings.{accepted, k_of, n_of}
-use Rattle.elimination.specs.Elimination.{Reduced, column_step, columns, known_in, reduced_from, left_flag, left_after, left_from}
+use Rattle.elimination.specs.declared.reduced.Reduced.{Reduced}
+use Rattle.elimination.specs.Elimination.{column_step, columns, known_in, reduced_from, left_flag, left_after, left_from}
 
 -- for settings that are not accepted the matrix, its roles and the flags stay
 pub reduced_refused : (s : Settings) (x : Reduced) (flags : List ℕ) → accepted s ≡ false → x ≡ reduced_from s x flags

@@ -12,7 +12,8 @@ use Rattle.galois.proofs.ByIndex.{get_or-table}
 use Rattle.galois.proofs.Cases.{is_false, some_any, any-one, any_none, any_same}
 use Rattle.code.specs.declared.settings.Settings.{Settings}
 use Rattle.elimination.specs.declared.lane.Symbol.TheVariants as symbol
-use Rattle.elimination.specs.Elimination.{Reduced, combined, clashes, differs, symbol_of, known_in}
+use Rattle.elimination.specs.declared.reduced.Reduced.{Reduced}
+use Rattle.elimination.specs.Elimination.{combined, clashes, differs, symbol_of, known_in}
 use Rattle.elimination.proofs.Answers.{symbol_clash, symbol_lost, symbol_whole}
 use Rattle.shares.specs.Shares.{lane_byte}
 use Rattle.lanes.specs.Lanes.{Answer, combined_lanes, lanes_clash, lanes_said}

@@ -14,7 +14,8 @@ use Rattle.code.specs.declared.settings.Settings.{Settings}
 use Rattle.code.specs.Settings.{accepted, k_of, n_of}
 use Rattle.code.specs.Word.{systematic_of}
 use Rattle.code.proofs.Shape.{Shape, shape}
-use Rattle.elimination.specs.Elimination.{Reduced, first_roles, started, eliminated, known_in, reduced_from, left_from, Solved}
+use Rattle.elimination.specs.declared.reduced.Reduced.{Reduced}
+use Rattle.elimination.specs.Elimination.{first_roles, started, eliminated, known_in, reduced_from, left_from, Solved}
 use Rattle.elimination.proofs.LeftFlags.{source_solved, left_or_pivot, left_source}
 use Rattle.elimination.proofs.Reductions.{reduced_accepted, same_columns}
 use Rattle.elimination.proofs.Roles.{first_sixteen}

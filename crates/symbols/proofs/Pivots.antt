@@ -15,7 +15,8 @@ use Rattle.galois.proofs.Sums.{sum_single}
 use Rattle.code.specs.declared.settings.Settings.{Settings}
 use Rattle.code.specs.Settings.{accepted, k_of, n_of}
 use Rattle.code.proofs.Shape.{Shape, shape}
-use Rattle.elimination.specs.Elimination.{Reduced, cell, free, eliminated, combined, clashes, symbol_of, known_in, Solved}
+use Rattle.elimination.specs.declared.reduced.Reduced.{Reduced}
+use Rattle.elimination.specs.Elimination.{cell, free, eliminated, combined, clashes, symbol_of, known_in, Solved}
 use Rattle.elimination.proofs.Invariant.{Pivot, Invariant, invariant_end}
 use Rattle.elimination.proofs.PivotSearch.{get_d_default, is_pivot}
 use Rattle.symbols.proofs.ParityFlags.{Unsolved}

@@ -8,7 +8,8 @@ use lib.Dec.{T, eqb}
 use lib.ListN.{length, get_or, set}
 use Rattle.code.specs.Settings.{accepted, k_of}
 use Rattle.code.proofs.Shape.{Shape, shape}
-use Rattle.elimination.specs.Elimination.{Reduced, column_step, columns, known_in, left_flag, left_after}
+use Rattle.elimination.specs.declared.reduced.Reduced.{Reduced}
+use Rattle.elimination.specs.Elimination.{column_step, columns, known_in, left_flag, left_after}
 use Rattle.elimination.proofs.Reductions.{reduced_accepted, sixteen_roles}
 use Rattle.elimination.proofs.LeftFlags.{left_accepted, left_kept}
 use Rattle.elimination.proofs.Terms.{both}

@@ -6,7 +6,8 @@ use native.Mathlib.Omega.{arith}
 use lib.ListN.{length, get_or}
 use Rattle.galois.proofs.Cases.{is_true}
 use Rattle.code.proofs.Shape.{Shape, shape}
-use Rattle.elimination.specs.Elimination.{Reduced, eliminated, known_in, reduced_of}
+use Rattle.elimination.specs.declared.reduced.Reduced.{Reduced}
+use Rattle.elimination.specs.Elimination.{eliminated, known_in, reduced_of}
 use Rattle.elimination.proofs.OwnColumns.{own_reduced}
 use Rattle.elimination.proofs.Reductions.{eliminated_reduced, reduced_roles}
 use Rattle.elimination.proofs.Roles.{first_sixteen}

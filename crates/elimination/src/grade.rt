@@ -1,0 +1,10 @@
+// What is said of one symbol in all lanes, the worst last.
+#[derive(Clone, Copy, PartialEq, Eq, PartialOrd, Ord)]
+pub enum Grade {
+    // Every lane has a byte that its fitting words share.
+    Whole,
+    // Two fitting words of some lane differ in it.
+    Lost,
+    // No word fits in some lane.
+    Clash,
+}
