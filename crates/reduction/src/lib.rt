@@ -2,36 +2,32 @@
 // position takes one more. It is the same for every lane.
 #![tactic(auto)]
 
-ghost use Rattle.std.specs.Prelude.{◌≡◌, length};
+ghost use Rattle.std.specs.Prelude.{◌≡◌};
 ghost use Rattle.galois.specs.Byte.{Reciprocals};
 ghost use Rattle.elimination.specs.Elimination.{reduced_from, left_from};
 
 use code::Settings;
 use columns::column_step;
+use elimination::Reduced;
 
-// Elimination over the parity positions whose flag is 1, from the roles that are lent, on a copy of the matrix, which is returned; the
-// flag of each position that becomes a pivot is cleared. For settings that are not accepted nothing is done.
+// Elimination over the parity positions whose flag is 1, on a copy of the matrix and its roles, which is returned; the flag of each
+// position that becomes a pivot is cleared. For settings that are not accepted nothing is done.
 pub fn eliminate(
     s: Settings,
     reciprocals: &[u8; 256],
-    matrix: [[u8; 16]; 16],
+    start: Reduced,
     flags: &mut [u8; 16],
-    roles: &mut [u8; 16],
-) -> [[u8; 16]; 16]
-    requires { (length roles.old ≡ 16) × Reciprocals reciprocals.now }
-    ensures reduced { record { rows = result; roles = roles.new }
-        ≡ reduced_from s (record { rows = matrix; roles = roles.old }) flags.old }
-    ensures left { flags.new
-        ≡ left_from s (record { rows = matrix; roles = roles.old }) flags.old }
+) -> Reduced
+    requires { Reciprocals reciprocals.now }
+    ensures reduced { result ≡ reduced_from s start flags.old }
+    ensures left { flags.new ≡ left_from s start flags.old }
 {
     if !s.accepted() {
-        return matrix;
+        return start;
     }
-    let mut reduced = matrix;
-    let mut p = s.sources();
-    while p < s.symbols() {
-        flags[p] = column_step(&mut reduced, roles, flags[p], p, s.sources(), reciprocals);
-        p += 1;
+    let mut reduced = start;
+    for p in s.sources()..s.symbols() {
+        flags[p] = column_step(&mut reduced, flags[p], p, s.sources(), reciprocals);
     }
     reduced
 }

@@ -9,6 +9,7 @@ ghost use Rattle.places.specs.Places.{Ready};
 ghost use Rattle.symbols.specs.Decision.{Told};
 
 use code::Settings;
+use elimination::Reduced;
 use places::locate;
 
 // Symbol i of message t in all lanes: its grade, and its bytes where the grade is 0; else `out` stays as it was lent. The matrix is the
@@ -32,6 +33,19 @@ pub fn write_symbol(
     let mut flags = [0u8; 16];
     let mut roles = [16u8; 16];
     locate(s, rows, due + i, t, i, &mut places, &mut flags, &mut roles);
-    let reduced = reduction::eliminate(s, reciprocals, matrix, &mut flags, &mut roles);
-    lanes::answer(s, &reduced, &roles, &flags, &places, rows, i, out)
+    let start = Reduced {
+        rows: matrix,
+        roles,
+    };
+    let reduced = reduction::eliminate(s, reciprocals, start, &mut flags);
+    lanes::answer(
+        s,
+        &reduced.rows,
+        &reduced.roles,
+        &flags,
+        &places,
+        rows,
+        i,
+        out,
+    )
 }

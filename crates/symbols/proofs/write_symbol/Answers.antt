@@ -10,8 +10,6 @@ use Rattle.elimination.specs.declared.reduced.Reduced.{Reduced}
 use Rattle.elimination.specs.Elimination.{eliminated, known_in, reduced_of}
 use Rattle.elimination.proofs.OwnColumns.{own_reduced}
 use Rattle.elimination.proofs.Reductions.{eliminated_reduced, reduced_roles}
-use Rattle.elimination.proofs.Roles.{first_sixteen}
-use Rattle.elimination.proofs.Terms.{both}
 use Rattle.shares.specs.Shares.{lane_byte}
 use Rattle.clashes.specs.Clashes.{ParityOnly}
 use Rattle.lanes.specs.Lanes.{Own, lanes_said}
@@ -29,14 +27,14 @@ locate-requires c =
 
 pub eliminate-reduced-requires : goal.eliminate-reduced-requires
 eliminate-reduced-requires c =
-    (ap length c.locate.ensures.roles ∙ first_sixteen _ _, c.requires.5)
+    c.requires.5
 
 pub answer-requires : goal.answer-requires
 answer-requires c =
     let shaped : Shape c.args.s = shape c.args.s c.requires.0.settings in
-    let reduced : both c.eliminate-reduced.result c.eliminate-reduced.new.roles ≡ eliminated c.args.s (known_in c.args.s (flags_of c.args.s c.args.rows.now (c.args.due + c.args.i) c.args.t c.args.i)) = c.eliminate-reduced.ensures.reduced
+    let reduced : c.eliminate-reduced.result ≡ eliminated c.args.s (known_in c.args.s (flags_of c.args.s c.args.rows.now (c.args.due + c.args.i) c.args.t c.args.i)) = c.eliminate-reduced.ensures.reduced
     ∙ located_eliminated c.args.s c.requires.0.settings (flags_of c.args.s c.args.rows.now (c.args.due + c.args.i) c.args.t c.args.i) _ _ _ c.requires.3 c.locate.ensures.flags c.locate.ensures.roles in
-    let reduced-by : both c.eliminate-reduced.result c.eliminate-reduced.new.roles ≡ reduced_of c.args.s (flags_of c.args.s c.args.rows.now (c.args.due + c.args.i) c.args.t c.args.i) = reduced ∙ eliminated_reduced c.args.s (flags_of c.args.s c.args.rows.now (c.args.due + c.args.i) c.args.t c.args.i) (is_true _ c.requires.0.settings) in
+    let reduced-by : c.eliminate-reduced.result ≡ reduced_of c.args.s (flags_of c.args.s c.args.rows.now (c.args.due + c.args.i) c.args.t c.args.i) = reduced ∙ eliminated_reduced c.args.s (flags_of c.args.s c.args.rows.now (c.args.due + c.args.i) c.args.t c.args.i) (is_true _ c.requires.0.settings) in
     let h = shaped in (
       record {
         settings = c.requires.0.settings;
@@ -59,7 +57,7 @@ returns c =
     subst⁻¹ (Unsolved c.args.s (flags_of c.args.s c.args.rows.now (c.args.due + c.args.i) c.args.t c.args.i) (eliminated c.args.s (known_in c.args.s (flags_of c.args.s c.args.rows.now (c.args.due + c.args.i) c.args.t c.args.i))).roles) c.eliminate-reduced.ensures.left
     (located_left c.args.s c.requires.0.settings (flags_of c.args.s c.args.rows.now (c.args.due + c.args.i) c.args.t c.args.i) _ _ _ c.requires.3 c.locate.ensures.flags c.locate.ensures.roles
     (λ q source. flag_cases c.args.s c.requires.0.settings c.args.rows.now c.args.due c.args.t c.args.i q (omega arith))) in
-    let reduced : both c.eliminate-reduced.result c.eliminate-reduced.new.roles ≡ eliminated c.args.s (known_in c.args.s (flags_of c.args.s c.args.rows.now (c.args.due + c.args.i) c.args.t c.args.i)) = c.eliminate-reduced.ensures.reduced
+    let reduced : c.eliminate-reduced.result ≡ eliminated c.args.s (known_in c.args.s (flags_of c.args.s c.args.rows.now (c.args.due + c.args.i) c.args.t c.args.i)) = c.eliminate-reduced.ensures.reduced
     ∙ located_eliminated c.args.s c.requires.0.settings (flags_of c.args.s c.args.rows.now (c.args.due + c.args.i) c.args.t c.args.i) _ _ _ c.requires.3 c.locate.ensures.flags c.locate.ensures.roles in
     let flags : List ℕ = flags_of c.args.s c.args.rows.now (c.args.due + c.args.i) c.args.t c.args.i in
     let places : List ℕ = places_of c.args.s c.args.t c.args.i in
