@@ -9,7 +9,7 @@ ghost use Rattle.protocol.specs.Causes.{header_cause};
 ghost use Rattle.frames.specs.Fields.{settings_at, slot_at, slot_in};
 
 use code::Settings;
-pub use header::{agrees, header_bytes};
+pub use header::{agrees, header_bytes, settings_bytes};
 use protocol::{Answer, Cause};
 pub use reading::slot_read_cause;
 

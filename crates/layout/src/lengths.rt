@@ -8,8 +8,5 @@ use code::Settings;
 pub fn or_zero(s: Settings, len: usize) -> usize
     ensures { result ≡ cond (accepted s) len 0 }
 {
-    if !s.accepted() {
-        return 0;
-    }
-    len
+    if s.accepted() { len } else { 0 }
 }

@@ -1,13 +1,13 @@
 -- What is read back from a state that was written, and what the causes of a state say.
-use mathlib.Core.Path.{◌≡◌, refl, sym}
+use mathlib.Core.Path.{◌≡◌, refl}
 use mathlib.Core.Bool.{true}
 use mathlib.Core.List.{List}
-use native.Mathlib.Nat.{div-add-mod', div-div-eq-div-mul, div-lt_iff_lt-mul, mod-eq_of_lt}
 use native.Mathlib.Omega.{arith}
-use Prim.Native.Nat.{ℕ, ◌+◌, ◌*◌, ◌/◌, ◌%◌, ◌≤◌, ◌<◌}
+use Prim.Native.Nat.{ℕ, ◌+◌, ◌≤◌}
 use lib.Dec.{eqb, eqb→eq}
 use lib.ListN.{length}
 use borrow.Author.Tests.{eq-eqb}
+use Rattle.std.proofs.lemmas.Nat.{from_be_bytes-to_be_bytes_4}
 use Rattle.galois.specs.Bounded.{every}
 use Rattle.code.specs.declared.settings.Settings.{Settings}
 use Rattle.protocol.specs.declared.Sender.{Sender}
@@ -25,15 +25,6 @@ use Rattle.state.proofs.StateBytes.{length-state}
 
 -- ---- reading back what was written
 
--- the four bytes of a number below 2^32 make it again
-four_bytes : (t : ℕ) → t < 4294967296
-    → ((t / 16777216 % 256 * 256 + t / 65536 % 256) * 256 + t / 256 % 256) * 256 + t % 256 ≡ t
-four_bytes t few =
-    let second : t / 65536 ≡ t / 256 / 256 = sym (div-div-eq-div-mul t 256 256) in
-    let third : t / 16777216 ≡ t / 65536 / 256 = sym (div-div-eq-div-mul t 65536 256) in
-    let small : t / 16777216 % 256 ≡ t / 16777216 = mod-eq_of_lt ((div-lt_iff_lt-mul (omega arith)).1 few) in
-    omega (arith, second, third, small, div-add-mod' t 256, div-add-mod' (t / 256) 256, div-add-mod' (t / 65536) 256)
-
 module _ (end : ℕ) (s : Settings) (due opening : ℕ) where
   pub settings_read : settings_at 4 (state_bytes end s due opening) ≡ s
   unfolding settings_at five slot_bytes state_bytes
@@ -41,11 +32,11 @@ module _ (end : ℕ) (s : Settings) (due opening : ℕ) where
 
   pub due_read : due ≤ last_slot + 1 → slot_at 9 (state_bytes end s due opening) ≡ due
   unfolding slot_at five slot_bytes state_bytes last_slot
-  due_read few = four_bytes due (omega arith)
+  due_read few = omega (arith, from_be_bytes-to_be_bytes_4 due (omega arith))
 
   pub opening_read : opening ≤ last_slot → slot_at 13 (state_bytes end s due opening) ≡ opening
   unfolding slot_at five slot_bytes state_bytes last_slot
-  opening_read few = four_bytes opening (omega arith)
+  opening_read few = omega (arith, from_be_bytes-to_be_bytes_4 opening (omega arith))
 
   marked : agree 4 (state_bytes end s due opening) (mark_of end) ≡ true
   unfolding agree every five slot_bytes state_bytes
@@ -68,7 +59,11 @@ receiver_in_state x begun few =
     let s = x.settings in
     let due : ℕ = x.due in
     let opening : ℕ = x.opening in
-    rw (settings_read receiver_end s due opening, opening_read receiver_end s due opening begun, due_read receiver_end s due opening few) refl
+    rw (
+      settings_read receiver_end s due opening,
+      opening_read receiver_end s due opening begun,
+      due_read receiver_end s due opening few,
+    ) refl
 
 -- ---- the causes that a state gives
 

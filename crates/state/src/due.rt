@@ -11,10 +11,7 @@ fn is_either(bytes: &[u8]) -> bool
     requires { 4 ≤ length bytes.now }
     ensures { result ≡ either_mark bytes.now }
 {
-    if is_marked(SENDER_END, bytes) {
-        return true;
-    }
-    is_marked(RECEIVER_END, bytes)
+    is_marked(SENDER_END, bytes) || is_marked(RECEIVER_END, bytes)
 }
 
 // The first cause for which the slot due is not read from these bytes: their length, or that they are no state.

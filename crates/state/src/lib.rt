@@ -4,26 +4,24 @@
 mod due;
 
 ghost use Rattle.std.specs.Prelude.{◌≡◌, ◌≤◌, length};
-ghost use Rattle.protocol.specs.Frame.{slot_bytes};
 ghost use Rattle.protocol.specs.Causes.{agree};
 ghost use Rattle.state.specs.State.{mark_of, state_bytes, sender_bytes, receiver_bytes, state_len, saved};
 ghost use Rattle.state.specs.State.{sender_in, receiver_in, state_cause};
 
-use buffers::write_at;
 use code::Settings;
 pub use due::due_read_cause;
 use ends::{receiver_at, sender_at};
-use frames::{settings_at, slot_at};
+use frames::{settings_at, settings_bytes, slot_at};
 use protocol::{Answer, Cause, Receiver, Sender};
 
 // The length of a state, of either end.
 pub const STATE_LEN: usize = 20;
 
-// The letter of the end that a state is of: `S` for a sender.
-pub const SENDER_END: u8 = 0x53;
+// The letter of the end that a state is of: `S` for a sender. A byte, since `state_cause` promises its answer of any.
+pub const SENDER_END: u8 = b'S';
 
 // And `R` for a receiver.
-pub const RECEIVER_END: u8 = 0x52;
+pub const RECEIVER_END: u8 = b'R';
 
 // The sender that a state keeps.
 pub fn sender_in(state: &[u8]) -> Sender
@@ -45,7 +43,7 @@ pub fn receiver_in(state: &[u8]) -> Receiver
 fn mark_of(end: u8) -> [u8; 4]
     ensures { result ≡ mark_of end }
 {
-    [0x54, 0x4f, 0x42, end]
+    [b'T', b'O', b'B', end]
 }
 
 // Whether the bytes begin with the mark of this end.
@@ -53,15 +51,7 @@ fn is_marked(end: u8, bytes: &[u8]) -> bool
     requires { 4 ≤ length bytes.now }
     ensures { result ≡ agree 4 bytes.now (mark_of end) }
 {
-    let mark = mark_of(end);
-    let mut i: usize = 0;
-    while i < 4 {
-        if bytes[i] != mark[i] {
-            return false;
-        }
-        i += 1;
-    }
-    true
+    bytes.starts_with(&mark_of(end))
 }
 
 // The first cause that a state of this end gives, before those of the call on what it keeps.
@@ -77,47 +67,16 @@ pub fn state_cause(end: u8, state: &[u8]) -> Answer
     Answer::Accepted
 }
 
-// A slot in four bytes, high byte first.
-fn slot_bytes(slot: u32) -> [u8; 4]
-    ensures { result ≡ slot_bytes slot }
-{
-    [
-        (slot / 16777216 % 256) as u8,
-        (slot / 65536 % 256) as u8,
-        (slot / 256 % 256) as u8,
-        (slot % 256) as u8,
-    ]
-}
-
-// A state, byte by byte.
+// A state, part by part.
 fn state_bytes(end: u8, s: Settings, due: u32, opening: u32) -> [u8; STATE_LEN]
     ensures { result ≡ state_bytes end s due opening }
 {
-    let mark = mark_of(end);
-    let next = slot_bytes(due);
-    let first = slot_bytes(opening);
-    [
-        mark[0],
-        mark[1],
-        mark[2],
-        mark[3],
-        s.window,
-        s.delay,
-        s.burst,
-        s.scattered,
-        s.lanes,
-        next[0],
-        next[1],
-        next[2],
-        next[3],
-        first[0],
-        first[1],
-        first[2],
-        first[3],
-        0,
-        0,
-        0,
-    ]
+    let mut bytes = [0; STATE_LEN];
+    bytes[..4].copy_from_slice(&mark_of(end));
+    bytes[4..9].copy_from_slice(&settings_bytes(s));
+    bytes[9..13].copy_from_slice(&due.to_be_bytes());
+    bytes[13..17].copy_from_slice(&opening.to_be_bytes());
+    bytes
 }
 
 // The state of this sender.
@@ -140,6 +99,6 @@ pub fn save(taken: bool, bytes: [u8; STATE_LEN], state: &mut [u8])
     ensures { state.new ≡ saved taken bytes state.old }
 {
     if taken {
-        write_at(state, 0, &bytes);
+        state.copy_from_slice(&bytes);
     }
 }
