@@ -27,15 +27,11 @@ pub fn pair_up(
     ensures { pairs.new ≡ paired_up pairs.old j bytes.now lanes first second }
 {
     let e = j * 2;
-    let a = first.start;
-    let b = second.start;
-    let mut v: usize = 0;
-    while v < lanes {
-        let x = Gf256(bytes[a + v] & first.keep);
-        let y = Gf256(bytes[b + v] & second.keep);
+    for v in 0..lanes {
+        let x = Gf256(bytes[first.start + v] & first.keep);
+        let y = Gf256(bytes[second.start + v] & second.keep);
         pairs[e + 1][v] = x.0;
         pairs[e + 16][v] = y.0;
         pairs[e + 17][v] = x.sum(y).0;
-        v += 1;
     }
 }

@@ -12,8 +12,7 @@ pub fn quarters(row: [u8; 16]) -> [[u8; 16]; 16]
     ensures { result ≡ quarters_of row }
 {
     let mut out = [[0u8; 16]; 16];
-    let mut j: usize = 0;
-    while j < 16 {
+    for j in 0..16 {
         let x = Gf256(row[j]);
         let x2 = x.times_z();
         let x4 = x2.times_z();
@@ -34,7 +33,6 @@ pub fn quarters(row: [u8; 16]) -> [[u8; 16]; 16]
         out[13][j] = a4.0;
         out[14][j] = a8.0;
         out[15][j] = a4.sum(a8).0;
-        j += 1;
     }
     out
 }
@@ -48,14 +46,12 @@ pub fn row_by(row: [u8; 16], c: u8, parts: &[[u8; 16]; 16]) -> [u8; 16]
     let sixteens = parts[8 + (c / 16 % 4) as usize];
     let sixty_fours = parts[12 + (c / 64 % 4) as usize];
     let mut out = [0u8; 16];
-    let mut j: usize = 0;
-    while j < 16 {
+    for j in 0..16 {
         let digits = Gf256(ones[j])
             .sum(Gf256(fours[j]))
             .sum(Gf256(sixteens[j]))
             .sum(Gf256(sixty_fours[j]));
         out[j] = Gf256(row[j]).sum(digits).0;
-        j += 1;
     }
     out
 }
@@ -65,10 +61,8 @@ pub fn row_times(row: [u8; 16], c: u8) -> [u8; 16]
     ensures { result ≡ table 16 (λ j. c ⊗ get_or row j 0) }
 {
     let mut out = [0u8; 16];
-    let mut j: usize = 0;
-    while j < 16 {
+    for j in 0..16 {
         out[j] = Gf256(c).product(Gf256(row[j])).0;
-        j += 1;
     }
     out
 }

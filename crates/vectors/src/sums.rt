@@ -9,53 +9,37 @@ ghost use Rattle.vectors.specs.Weighted.{weighted_of};
 ghost use Rattle.halves.specs.Halves.{half_of, halves_sum};
 
 use gf256::Gf256;
-use halves::{bits_used, high_halves, low_halves};
+use halves::{bits_used, pack_halves};
 
 // z times each lane.
 fn double(sum: &mut [u8; 64])
-    requires { length sum.old ≡ 64 }
     ensures { sum.new ≡ table 64 (λ v. 2 ⊗ get_or sum.old v 0) }
 {
-    let mut v: usize = 0;
-    while v < 64 {
-        sum[v] = Gf256(sum[v]).times_z().0;
-        v += 1;
+    for lane in sum.iter_mut() {
+        *lane = Gf256(*lane).times_z().0;
     }
-}
-
-// The sum of two bytes, and the bound of the second.
-fn plus(x: u8, y: u8) -> u8
-    ensures sum { result ≡ x ⊕ y }
-    ensures byte { y < 256 }
-{
-    Gf256(x).sum(Gf256(y)).0
 }
 
 // Adds a vector, lane by lane; its lanes are bytes.
 fn add(sum: &mut [u8; 64], vector: &[u8; 64])
-    requires { length sum.old ≡ 64 }
     ensures sum { sum.new ≡ table 64 (λ v. get_or sum.old v 0 ⊕ get_or vector.now v 0) }
-    ensures bytes { (v : ℕ) → v < 64 → get_or vector.now v 0 < 256 }
+    ensures bytes { (v : ℕ) → get_or vector.now v 0 < 256 }
 {
-    let mut v: usize = 0;
-    while v < 64 {
-        sum[v] = plus(sum[v], vector[v]);
-        v += 1;
+    for v in 0..64 {
+        sum[v] = Gf256(sum[v]).sum(Gf256(vector[v])).0;
     }
 }
 
 // Adds the vectors whose half has bit t.
 fn add_plane(total: &mut [u8; 64], halves: &[u8; 8], t: u32, pairs: &[[u8; 64]; 32], count: usize)
-    requires { (length total.old ≡ 64) × (t < 4) × (count ≤ 8) × Paired count pairs.now }
+    requires { (t < 4) × (count ≤ 8) × Paired count pairs.now }
     ensures { total.new
         ≡ table 64 (λ v.
         get_or total.old v 0
         ⊕ sum (count * 2) (λ i. (half_of halves.now i / 2 ^ t % 2) ⊗ get_or (vector_of pairs.now i) v 0)) }
 {
-    let mut j: usize = 0;
-    while j < count {
+    for j in 0..count {
         add(total, &pairs[2 * j + ((halves[j] >> t) & 17) as usize]);
-        j += 1;
     }
 }
 
@@ -83,9 +67,10 @@ fn by_upper(halves: &[u8; 8], pairs: &[[u8; 64]; 32], count: usize) -> [u8; 64]
     if bits_used(halves, count) & 0xee == 0 {
         let mut total = [0u8; 64];
         add_plane(&mut total, halves, 0, pairs, count);
-        return total;
+        total
+    } else {
+        by_nibble(halves, pairs, count)
     }
-    by_nibble(halves, pairs, count)
 }
 
 // The sum of the vectors, each by its coefficient in column q.
@@ -93,15 +78,13 @@ pub fn weighted(rows: &[[u8; 16]; 16], q: usize, pairs: &[[u8; 64]; 32], count: 
     requires { (q < 16) × (count ≤ 8) × Paired count pairs.now }
     ensures { result ≡ weighted_of rows.now q pairs.now count }
 {
-    let upper = high_halves(rows, q, count);
+    let upper = pack_halves::<16>(rows, q, count);
     let high = by_upper(&upper, pairs, count);
-    let lower = low_halves(rows, q, count);
+    let lower = pack_halves::<1>(rows, q, count);
     let low = by_nibble(&lower, pairs, count);
     let mut out = [0u8; 64];
-    let mut v: usize = 0;
-    while v < 64 {
+    for v in 0..64 {
         out[v] = Gf256(low[v]).sum(Gf256(high[v]).times_alpha()).0;
-        v += 1;
     }
     out
 }

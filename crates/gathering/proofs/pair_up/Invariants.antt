@@ -1,5 +1,5 @@
 -- A turn puts one lane over the three vectors; what stands after it is as it came.
-use Prim.Native.Nat.{◌-◌, ◌*◌, ◌≤◌}
+use Prim.Native.Nat.{◌*◌}
 use Rattle.galois.specs.Byte.{◌⊕◌}
 use Rattle.gathering.specs.Pairs.{byte_of}
 use Rattle.gathering.proofs.PairLaws.{Put}
@@ -7,9 +7,6 @@ use Rattle.gathering.proofs.pair_up.Given as goal
 
 abbrev pub invariant-loop-v : goal.invariant-loop-v
 invariant-loop-v l =
-    (l.v ≤ l.lanes)
-    × Put l.initial.pairs (l.j * 2) l.v (byte_of l.bytes l.first) (byte_of l.bytes l.second) (λ v. byte_of l.bytes l.first v ⊕ byte_of l.bytes l.second v) l.pairs
-
-abbrev pub decreases-loop-v : goal.decreases-loop-v
-decreases-loop-v l =
-    l.lanes - l.v
+    let x = byte_of l.bytes l.first in
+    let y = byte_of l.bytes l.second in
+    Put l.initial.pairs (l.j * 2) l.v x y (λ v. x v ⊕ y v) l.pairs

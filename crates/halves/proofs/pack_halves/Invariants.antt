@@ -1,16 +1,12 @@
 -- The loop fills the bytes from the front, each with the halves of two coefficients; those behind them are 0 from the start.
 use mathlib.Core.List.{[]}
 use mathlib.Core.Path.{◌≡◌}
-use Prim.Native.Nat.{ℕ, ◌+◌, ◌-◌, ◌*◌, ◌/◌, ◌%◌, ◌<◌, ◌≤◌}
+use Prim.Native.Nat.{ℕ, ◌+◌, ◌*◌, ◌/◌, ◌%◌, ◌<◌, ◌≤◌}
 use lib.ListN.{length, get_or}
 use Rattle.halves.proofs.pack_halves.Given as goal
 
 abbrev pub invariant-loop-j : goal.invariant-loop-j
-invariant-loop-j l =
-    (l.j ≤ l.count) × (length l.out ≡ 8)
-    × ((k : ℕ) → k < l.j → get_or l.out k 0 ≡ get_or (get_or l.rows (2 * k) []) l.q 0 / l.unit % 16 + get_or (get_or l.rows (2 * k + 1) []) l.q 0 / l.unit % 16 * 16)
+invariant-loop-j g l =
+    (length l.out ≡ 8)
+    × ((k : ℕ) → k < l.j → get_or l.out k 0 ≡ get_or (get_or l.rows (2 * k) []) l.q 0 / g.row.UNIT % 16 + get_or (get_or l.rows (2 * k + 1) []) l.q 0 / g.row.UNIT % 16 * 16)
     × ((k : ℕ) → l.j ≤ k → get_or l.out k 0 ≡ 0)
-
-abbrev pub decreases-loop-j : goal.decreases-loop-j
-decreases-loop-j l =
-    l.count - l.j

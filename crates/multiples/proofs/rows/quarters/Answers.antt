@@ -1,7 +1,7 @@
 -- The loop fills the 16 rows place by place; each byte is a multiple of the row's byte, made from those before it.
 use mathlib.Core.Path.{◌≡◌, refl, sym, ◌∙◌}
 use native.Mathlib.Omega.{arith}
-use Prim.Native.Nat.{◌<◌, zero-le}
+use Prim.Native.Nat.{◌<◌}
 use lib.Dec.{lit<}
 use lib.ListN.{get_or}
 use Rattle.galois.specs.Byte.{◌⊕◌, ◌⊗◌, alpha}
@@ -16,7 +16,7 @@ use Rattle.multiples.proofs.rows.quarters.Goals as goal
 pub loop-j-init : goal.loop-j-init
 unfolding table
 loop-j-init c =
-    (zero-le, none_filled c.args.row)
+    none_filled c.args.row
 
 pub loop-j-preserved : goal.loop-j-preserved
 unfolding ◌⊕◌ alpha weight
@@ -29,7 +29,7 @@ loop-j-preserved c =
     let e32 = next_multiple 16 32 x _ _ (twice_high 1 (lit< tt)) c.times_alpha-a.ensures c.times_z-a2.ensures in
     let e64 = next_multiple 32 64 x _ _ (twice_high 2 (lit< tt)) e32 c.times_z-a4.ensures in
     let e128 = next_multiple 64 128 x _ _ (twice_high 4 (lit< tt)) e64 c.times_z-a8.ensures in
-    let f1 = leave c.args.row c.loop-j.j 0 _ here (lit< tt) c.loop-j.invariant.1 refl in
+    let f1 = leave c.args.row c.loop-j.j 0 _ here (lit< tt) c.loop-j.invariant refl in
     let f2 = fill c.args.row c.loop-j.j 1 _ here (lit< tt) f1 _ (lit< tt) e1 in
     let f3 = fill c.args.row c.loop-j.j 2 _ here (lit< tt) f2 _ (lit< tt) c.times_z-x2.ensures in
     let f4 = fill c.args.row c.loop-j.j 3 _ here (lit< tt) f3 _ (lit< tt) (c.sum.ensures ∙ both_multiples 1 2 x _ _ e1 c.times_z-x2.ensures) in
@@ -45,8 +45,8 @@ loop-j-preserved c =
     let f14 = fill c.args.row c.loop-j.j 13 _ here (lit< tt) f13 _ (lit< tt) e64 in
     let f15 = fill c.args.row c.loop-j.j 14 _ here (lit< tt) f14 _ (lit< tt) e128 in
     let f16 = fill c.args.row c.loop-j.j 15 _ here (lit< tt) f15 _ (lit< tt) (c.sum-in-loop-j-3.ensures ∙ both_multiples 64 128 x _ _ e64 e128) in
-    (omega arith, next_place c.args.row c.loop-j.j _ f16)
+    next_place c.args.row c.loop-j.j _ f16
 
 pub returns : goal.returns
 returns c =
-    all-filled c.args.row c.loop-j.j c.loop-j.out (omega arith) c.loop-j.invariant.1
+    all-filled c.args.row c.loop-j.j c.loop-j.out (omega arith) c.loop-j.invariant

@@ -1,12 +1,7 @@
 -- The loop fills the 16 rows place by place; each byte is a multiple of the row's byte, made from those before it.
-use Prim.Native.Nat.{◌-◌, ◌≤◌}
 use Rattle.multiples.proofs.Multiples.{Filled}
 use Rattle.multiples.proofs.rows.quarters.Given as goal
 
 abbrev pub invariant-loop-j : goal.invariant-loop-j
 invariant-loop-j l =
-    (l.j ≤ 16) × Filled l.row l.j 0 l.out
-
-abbrev pub decreases-loop-j : goal.decreases-loop-j
-decreases-loop-j l =
-    16 - l.j
+    Filled l.row l.j 0 l.out

@@ -2,7 +2,7 @@
 use mathlib.Core.Path.{◌≡◌, sym, ap, ◌∙◌}
 use mathlib.Core.List.{List}
 use native.Mathlib.Omega.{arith}
-use Prim.Native.Nat.{ℕ, ◌+◌, ◌*◌, ◌/◌, ◌^◌, zero-le}
+use Prim.Native.Nat.{ℕ, ◌+◌, ◌*◌, ◌/◌, ◌^◌}
 use lib.Bits.{bit_and}
 use lib.ListN.{length, get_or}
 use Rattle.galois.specs.Byte.{◌⊕◌}
@@ -15,7 +15,7 @@ use Rattle.vectors.proofs.sums.add_plane.Goals as goal
 pub loop-j-init : goal.loop-j-init
 unfolding sum
 loop-j-init c =
-    (zero-le, c.requires.0, λ v h. sym (plus_zero (get_or c.args.total.now v 0)))
+    (c.told-total, λ v h. sym (plus_zero (get_or c.args.total.now v 0)))
 
 pub overflow_cast-halves : goal.overflow_cast-halves
 overflow_cast-halves c =
@@ -33,29 +33,24 @@ pub bounds-pairs-j : goal.bounds-pairs-j
 bounds-pairs-j c =
     omega (arith, at_most_17 c.args.halves.now c.loop-j.j c.args.t)
 
-pub add-requires : goal.add-requires
-add-requires c =
-    c.loop-j.invariant.1
-
 pub loop-j-preserved : goal.loop-j-preserved
 loop-j-preserved c =
     let e = 2 * c.loop-j.j + bit_and (get_or c.args.halves.now c.loop-j.j 0 / 2 ^ c.args.t) 17 in
     let added : ℕ → ℕ = λ v. get_or c.loop-j.total v 0 ⊕ lane c.args.pairs.now e v in
     let term = term_at c.args.halves.now c.args.t c.args.pairs.now in (
-      omega arith,
       ap length c.add.ensures.sum ∙ length-table 64 added,
       λ v h.
           ap (λ (l : List ℕ). get_or l v 0) c.add.ensures.sum ∙ get_or-table 64 added v 0 h
-          ∙ ap (λ (x : ℕ). x ⊕ lane c.args.pairs.now e v) (c.loop-j.invariant.2 v h)
+          ∙ ap (λ (x : ℕ). x ⊕ lane c.args.pairs.now e v) (c.loop-j.invariant.1 v h)
           ∙ plus_assoc (get_or c.args.total.now v 0) (sum (c.loop-j.j * 2) (term v)) (lane c.args.pairs.now e v)
           ∙ ap (λ (s : ℕ). get_or c.args.total.now v 0 ⊕ s)
-          (next_pair c.args.count c.args.pairs.now c.requires.3 c.loop-j.j v (omega arith) h c.args.halves.now c.args.t c.requires.1
-          (c.add.ensures.bytes v h)),
+          (next_pair c.args.count c.args.pairs.now c.requires.2 c.loop-j.j v (omega arith) h c.args.halves.now c.args.t c.requires.0
+          (c.add.ensures.bytes v)),
     )
 
 pub returns : goal.returns
 returns c =
     let term = term_at c.args.halves.now c.args.t c.args.pairs.now in
     let all : c.loop-j.j ≡ c.args.count = omega arith in
-    is_table 64 (λ v. get_or c.args.total.now v 0 ⊕ sum (c.args.count * 2) (term v)) 0 c.loop-j.total c.loop-j.invariant.1
-    (λ v h. c.loop-j.invariant.2 v h ∙ ap (λ (j : ℕ). get_or c.args.total.now v 0 ⊕ sum (j * 2) (term v)) all)
+    is_table 64 (λ v. get_or c.args.total.now v 0 ⊕ sum (c.args.count * 2) (term v)) 0 c.loop-j.total c.loop-j.invariant.0
+    (λ v h. c.loop-j.invariant.1 v h ∙ ap (λ (j : ℕ). get_or c.args.total.now v 0 ⊕ sum (j * 2) (term v)) all)
