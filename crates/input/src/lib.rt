@@ -1,7 +1,7 @@
 // Reading a file to its end: one that is open, as standard input, or one that an argument names.
 #![tactic(auto)]
 
-ghost use Rattle.std.specs.Prelude.{◌≡◌, ◌≤◌, ◌<◌, length, take, IsNone};
+ghost use Rattle.std.specs.Prelude.{◌≡◌, ◌≤◌, ◌<◌, length, take, IfOk, MatchResult};
 ghost use Rattle.std.specs.Io.KnownBytes.{Consumes, IsAtEnd};
 
 use std::env::FillError;
@@ -9,58 +9,48 @@ use std::io::{Error, ErrorKind, Read};
 use std::rt::{Env, Files};
 use std::{fs, str};
 
-// How much was read, and why a read failed, if one did, which is not the end.
+// Why a read failed, and how much was read before it.
 #[derive(Clone, Copy)]
-pub struct Input {
+pub struct Cut {
     pub len: usize,
-    pub failed: Option<Error>,
+    pub why: Error,
+}
+
+// Where a file can't be opened, nothing was read.
+impl From<Error> for Cut {
+    ghost from_gives = { λ why cut. cut ≡ record { len = 0; why = why } };
+
+    fn from(why: Error) -> Cut {
+        Cut { len: 0, why }
+    }
 }
 
 // Reads until the end, or until the buffer is full; a read may deliver only a piece. The bytes of the buffer are the system's to write,
 // and are all left open here, those behind the ones that were read too.
-pub fn read_all<R: Read>(reader: &mut R, buf: &mut [u8]) -> Input
-    ensures len { result.len ≤ length buf.new }
-    ensures bytes { Consumes (R.remaining reader.old) (R.remaining reader.new) (take result.len buf.new) }
-    ensures end { IsNone result.failed → result.len < length buf.new → IsAtEnd (R.remaining reader.new) }
+pub fn read_all<R: Read>(reader: &mut R, buf: &mut [u8]) -> Result<usize, Cut>
+    ensures len { MatchResult result (λ n. n ≤ length buf.new) (λ cut. cut.len ≤ length buf.new) }
+    ensures bytes { MatchResult result (λ n. Consumes (R.remaining reader.old) (R.remaining reader.new) (take n buf.new))
+        (λ cut. Consumes (R.remaining reader.old) (R.remaining reader.new) (take cut.len buf.new)) }
+    ensures end { IfOk result (λ n. n < length buf.new → IsAtEnd (R.remaining reader.new)) }
 {
     let mut done: usize = 0;
     while done < buf.len() {
         match reader.read(&mut buf[done..]) {
-            Ok(0) => {
-                return Input {
-                    len: done,
-                    failed: None,
-                };
-            }
+            Ok(0) => return Ok(done),
             Ok(n) => done += n,
-            Err(why) => {
-                return Input {
-                    len: done,
-                    failed: Some(why),
-                };
-            }
+            Err(why) => return Err(Cut { len: done, why }),
         }
     }
-    Input {
-        len: done,
-        failed: None,
-    }
+    Ok(done)
 }
 
 // Tells on standard error what could not be read, and why; where that fails too, there is nowhere left to tell it.
-fn tell(rt: &impl Eprint, what: &str, why: Error) {
-    let _ = eprintln!(rt; "{what}: {why}");
-}
-
-// Nothing was read, which is told.
-fn unread(rt: &impl Eprint, what: &str, why: Error) -> Input
-    ensures { result.len ≡ 0 }
+fn told(rt: &impl Eprint, what: &str, cut: Cut) -> Cut
+    ensures { result ≡ cut }
 {
-    tell(rt, what, why);
-    Input {
-        len: 0,
-        failed: Some(why),
-    }
+    let why = cut.why;
+    let _ = eprintln!(rt; "{what}: {why}");
+    cut
 }
 
 // Argument i, which is put at the start of a buffer.
@@ -70,28 +60,24 @@ fn name_of<'a>(rt: &impl Env, i: usize, path: &'a mut [u8]) -> Result<&'a str, E
         Err(FillError::NotPresent) => return Err(Error::from(ErrorKind::InvalidInput)),
         Err(FillError::TooLong) => return Err(Error::from(ErrorKind::InvalidFilename)),
     };
-    match str::from_utf8(&path[..len]) {
-        Ok(name) => Ok(name),
-        Err(_) => Err(Error::from(ErrorKind::InvalidFilename)),
-    }
+    str::from_utf8(&path[..len]).map_err(|_| Error::from(ErrorKind::InvalidFilename))
+}
+
+// Reads the file of this name.
+fn read_file(rt: &impl Files, name: &str, buf: &mut [u8]) -> Result<usize, Cut>
+    ensures { MatchResult result (λ n. n ≤ length buf.new) (λ cut. cut.len ≤ length buf.new) }
+{
+    let mut file = fs::open(rt, name)?;
+    read_all(&mut file, buf)
 }
 
 // Reads the file that argument i names; where that cannot be done, it is told on standard error. The bytes of the buffer are left open.
-pub fn read_named<R: Env + Files + Eprint>(rt: &R, i: usize, buf: &mut [u8]) -> Input
-    ensures { result.len ≤ length buf.new }
+pub fn read_named<R: Env + Files + Eprint>(rt: &R, i: usize, buf: &mut [u8]) -> Result<usize, Cut>
+    ensures { MatchResult result (λ n. n ≤ length buf.new) (λ cut. cut.len ≤ length buf.new) }
 {
     let mut path = [0u8; 4096];
-    let name = match name_of(rt, i, &mut path) {
-        Ok(name) => name,
-        Err(why) => return unread(rt, "play: a file's name", why),
-    };
-    let mut file = match fs::open(rt, name) {
-        Ok(file) => file,
-        Err(why) => return unread(rt, name, why),
-    };
-    let read = read_all(&mut file, buf);
-    if let Some(why) = read.failed {
-        tell(rt, name, why);
+    match name_of(rt, i, &mut path) {
+        Ok(name) => read_file(rt, name, buf).map_err(|cut| told(rt, name, cut)),
+        Err(why) => Err(told(rt, "play: a file's name", Cut::from(why))),
     }
-    read
 }

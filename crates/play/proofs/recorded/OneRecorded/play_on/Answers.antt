@@ -1,12 +1,12 @@
 -- There is room for the longest line, so each filling that is not the last leaves fewer steps.
-use Rattle.std.proofs.Common.{◌≡◌, false, ℕ, ◌≤◌, ◌<◌, List, length, sym, ap, ◌∙◌, subst, arith}
+use Rattle.std.proofs.Common.{◌≡◌, false, ℕ, ◌≤◌, ◌<◌, List, length, sym, ap, ◌∙◌, subst}
 use Rattle.lines.specs.Lent.{longest}
 use Rattle.progress.specs.declared.Player.{Player}
 use Rattle.reporting.specs.Outcomes.{Outcome, outcome}
 use Rattle.player.specs.Filling.{filled_of}
 use Rattle.player.proofs.LoopLaws.{filled_fits, filled_fewer}
 use Rattle.player.proofs.StepsLeft.{steps_left}
-use Rattle.play.proofs.play_steps.Goals as goal
+use Rattle.play.proofs.recorded.OneRecorded.play_on.Goals as goal
 
 module _ (p : Player) (recording rows message out : List ℕ) (made : Outcome) (filled : made ≡ filled_of p recording rows message out) where
   made_fits : length made.out ≡ length out → made.len ≤ length out
@@ -19,20 +19,19 @@ module _ (p : Player) (recording rows message out : List ℕ) (made : Outcome) (
       subst (λ (r : Outcome). steps_left recording r.player < steps_left recording p) (sym filled)
       (filled_fewer p recording rows message out room (sym (ap (λ (r : Outcome). r.over) filled) ∙ more))
 
-pub slice_bounds-put-end : goal.slice_bounds-put-end
-slice_bounds-put-end g c =
-    let at = c.loop-filled in
-    let f = c.fill-filled in
-    omega (
-      arith,
-      made_fits at.p c.args.recording.now at.rows at.message at.out (outcome f.result f.new.rows f.new.message f.new.out) f.ensures f.auto.out,
-      f.auto.out,
-    )
+pub returns-clause-len : goal.returns-clause-len
+returns-clause-len c =
+    let a = c.args in
+    let f = c.fill in
+    made_fits a.p a.self.now.0.now a.rows.now a.message.now a.out.now (outcome f.result f.new.rows f.new.message f.new.out) f.ensures f.auto.out
 
-pub loop-filled-smaller : goal.loop-filled-smaller
+pub returns-clause-more : goal.returns-clause-more
 unfolding longest
-loop-filled-smaller g c =
-    let at = c.loop-filled in
-    let f = c.fill-filled in
-    made_fewer at.p c.args.recording.now at.rows at.message at.out (outcome f.result f.new.rows f.new.message f.new.out) f.ensures
-    at.invariant.0 c.if-filled.false
+returns-clause-more c =
+    let a = c.args in
+    let f = c.fill in
+    λ more. (
+      tt,
+      made_fewer a.p a.self.now.0.now a.rows.now a.message.now a.out.now (outcome f.result f.new.rows f.new.message f.new.out) f.ensures
+          c.requires.1 more,
+    )
