@@ -7,3 +7,4 @@ pub mod Words
 pub mod Symbols
 pub mod Systematic
 pub mod Fits
+pub mod FromFn

@@ -11,18 +11,13 @@ ghost use Rattle.code.specs.Word.{systematic_of};
 use code::Settings;
 use generator::generator;
 use gf256::Gf256;
+use std::array;
 
 // A row with a multiple of another row added.
 fn plus_multiple(row: [u8; 16], number: Gf256, other: [u8; 16]) -> [u8; 16]
     ensures { result ≡ table 16 (λ j. get_or row j 0 ⊕ number.0 ⊗ get_or other j 0) }
 {
-    let mut out = [0u8; 16];
-    let mut j: usize = 0;
-    while j < 16 {
-        out[j] = Gf256(row[j]).sum(number.product(Gf256(other[j]))).0;
-        j += 1;
-    }
-    out
+    array::from_fn(|j| Gf256(row[j]).sum(number.product(Gf256(other[j]))).0)
 }
 
 // Row i of G with its source symbols from i + 1 to an end cancelled, by the rows below it that are done.
@@ -32,26 +27,21 @@ fn cancelled(row: [u8; 16], done: &[[u8; 16]; 16], i: usize, end: usize) -> [u8;
         ⊕ sum (end - (i + 1)) (λ e. get_or row (i + 1 + e) 0 ⊗ get_or (get_or done.now (i + 1 + e) []) p 0)) }
 {
     let mut out = row;
-    let mut m = i + 1;
-    while m < end {
+    for m in i + 1..end {
+        // The checker does not cover a call whose result is laid over an array that stands already, so it gets a name first.
         let sum = plus_multiple(out, Gf256(row[m]), done[m]);
         out = sum;
-        m += 1;
     }
     out
 }
 
 // The end of the source symbols of row i of G that are not 0.
+#[tactic(auto, unfolding(generator::specs::Matrix::band_end))]
 fn band_end(s: Settings, i: usize) -> usize
     requires { i < 16 }
     ensures { result ≡ band_end s i }
 {
-    let end = i + s.scattered as usize;
-    let sources = s.sources();
-    if sources < end {
-        return sources;
-    }
-    end
+    s.sources().min(i + s.scattered as usize)
 }
 
 // The systematic form, in an array of 16 rows; zeros for settings that are not accepted.
@@ -63,9 +53,7 @@ pub fn systematic(s: Settings) -> [[u8; 16]; 16]
         return rows;
     }
     let g = generator(s);
-    let mut i = s.sources();
-    while 0 < i {
-        i -= 1;
+    for i in (0..s.sources()).rev() {
         rows[i] = cancelled(g[i], &rows, i, band_end(s, i));
     }
     rows

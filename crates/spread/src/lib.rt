@@ -7,15 +7,17 @@ ghost use Rattle.galois.specs.Table.{table};
 ghost use Rattle.code.specs.Matrix.{point, factor, gf16, product_row};
 
 use gf16::Gf16;
+use std::array;
 
 // The m-th zero point of a row.
 fn zero_point(scattered: u8, row: u8, m: u8) -> u16
     ensures { result ≡ point scattered row m }
 {
     if m < row {
-        return m as u16;
+        m as u16
+    } else {
+        m as u16 + scattered as u16
     }
-    m as u16 + scattered as u16
 }
 
 // A position plus a point, in narrow numbers: 0 where either is above 15.
@@ -23,9 +25,10 @@ fn shifted(position: u8, point: u16) -> Gf16
     ensures { result.0 ≡ position ⊞ point }
 {
     if 15 < point {
-        return Gf16(0);
+        Gf16(0)
+    } else {
+        Gf16(position).sum(Gf16(point as u8))
     }
-    Gf16(position).sum(Gf16(point as u8))
 }
 
 // Products at positions 0 to 15, each times the factor of one more point. The division, the same at every position, is done once.
@@ -33,14 +36,7 @@ fn with_point(products: [Gf16; 16], row: u8, point: u16) -> [Gf16; 16]
     ensures { result ≡ table 16 (λ j. gf16 ((get_or products j (gf16 0)).0 ⊠ factor row j point)) }
 {
     let divided = Gf16(1).quotient(shifted(row, point));
-    let mut out = products;
-    let mut j: u8 = 0;
-    while j < 16 {
-        let factor = shifted(j, point).product(divided);
-        out[j as usize] = products[j as usize].product(factor);
-        j += 1;
-    }
-    out
+    array::from_fn(|j| products[j].product(shifted(j as u8, point).product(divided)))
 }
 
 // The products over the first zero points of a row, as many as are asked for: 1 over none, and then a point more each time.
@@ -49,12 +45,10 @@ pub fn spread_row(scattered: u8, row: u8, points: u8) -> [Gf16; 16]
     ensures { result ≡ product_row scattered row points }
 {
     let mut products = [[Gf16(1); 16]; 2];
-    let mut m: u8 = 0;
-    while m < points {
+    for m in 0..points {
         let from = (m % 2) as usize;
         let point = zero_point(scattered, row, m);
         products[1 - from] = with_point(products[from], row, point);
-        m += 1;
     }
     products[(points % 2) as usize]
 }

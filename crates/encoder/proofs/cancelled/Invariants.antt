@@ -14,7 +14,3 @@ reached row done i m p = get_or row p 0 ⊕ sum (m - (i + 1)) (λ e. get_or row 
 abbrev pub invariant-loop-m : goal.invariant-loop-m
 invariant-loop-m l =
     (l.i + 1 ≤ l.m) × (l.m ≤ l.end) × (l.out ≡ table 16 (reached l.row l.done l.i l.m))
-
-abbrev pub decreases-loop-m : goal.decreases-loop-m
-decreases-loop-m l =
-    l.end - l.m

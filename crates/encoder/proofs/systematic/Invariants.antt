@@ -12,7 +12,3 @@ use Rattle.encoder.proofs.systematic.Given as goal
 abbrev pub invariant-loop-i : goal.invariant-loop-i
 invariant-loop-i l =
     Shape l.s × (l.i ≤ k_of l.s) × (length l.rows ≡ 16) × ((r : ℕ) → l.i ≤ r → r < 16 → get_or l.rows r [] ≡ table 16 (symbol l.s (unit r)))
-
-abbrev pub decreases-loop-i : goal.decreases-loop-i
-decreases-loop-i l =
-    l.i

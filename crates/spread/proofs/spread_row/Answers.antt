@@ -2,7 +2,7 @@
 use mathlib.Core.List.{[]}
 use mathlib.Core.Path.{◌≡◌, refl, ◌∙◌}
 use native.Mathlib.Omega.{arith}
-use Prim.Native.Nat.{◌+◌, ◌-◌, ◌%◌, zero-le}
+use Prim.Native.Nat.{◌+◌, ◌-◌, ◌%◌}
 use lib.ListN.{get_or, length-set}
 use lib.Seq.{get_or-set_same}
 use Rattle.galois.specs.Table.{table}
@@ -13,7 +13,7 @@ use Rattle.spread.proofs.spread_row.Goals as goal
 pub loop-m-init : goal.loop-m-init
 unfolding product product_row table
 loop-m-init c =
-    (refl, refl, zero-le)
+    (refl, refl)
 
 pub loop-m-preserved : goal.loop-m-preserved
 loop-m-preserved c =
@@ -25,7 +25,6 @@ loop-m-preserved c =
           ∙ row_step c.args.scattered c.args.row (c.loop-m.m + 1) c.zero_point-point.result (get_or c.loop-m.products (c.loop-m.m % 2) []) (omega arith)
           (rw fewer c.loop-m.invariant.0) (rw fewer c.zero_point-point.ensures)),
       simp length-set c.loop-m.invariant.1,
-      omega arith,
     )
 
 pub returns : goal.returns

@@ -8,6 +8,6 @@ pub returns-then-m-row : goal.returns-then-m-row
 returns-then-m-row c =
     sym (point_low c.args.scattered c.args.row c.args.m (omega arith))
 
-pub returns : goal.returns
-returns c =
+pub returns-else-m-row : goal.returns-else-m-row
+returns-else-m-row c =
     sym (point_high c.args.scattered c.args.row c.args.m (omega arith))
