@@ -1,3 +1,3 @@
 -- The laws of what bytes say of themselves.
-pub mod SameBytes
+pub mod EachPlace
 pub mod SlotBytes

@@ -24,10 +24,10 @@ pub fn header_bytes(version: u16, s: Settings, due: u32) -> [u8; 14]
     bytes
 }
 
-// Whether the frame has the header's bytes at the places from `first` up to `end`.
+// Whether the frame has the header's bytes at the places from `first` up to `end`. `==` of two parts as short as these is slower.
 pub fn agrees(frame: &[u8], head: [u8; 14], first: usize, end: usize) -> bool
     requires { (first ≤ end) × (end ≤ 14) × (14 ≤ length frame.now) }
     ensures { result ≡ every (end - first) (λ i. eqb (get_or frame.now (first + i) 0) (get_or head (first + i) 0)) }
 {
-    frame[first..end] == head[first..end]
+    (first..end).all(|i| frame[i] == head[i])
 }

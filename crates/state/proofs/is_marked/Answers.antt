@@ -3,7 +3,7 @@ use Rattle.std.proofs.Common.{sym, refl, ℕ, get_or, length-take, get_or-take, 
 use Rattle.std.proofs.lemmas.Bool.Decides.{same_from_decides, Decides-eqb, Decides-like}
 use Rattle.std.proofs.lemmas.Slice.Eq.{slice_eq-Decides}
 use Rattle.protocol.specs.Causes.{agree}
-use Rattle.frames.proofs.SameBytes.{compared}
+use Rattle.state.proofs.SameBytes.{compared}
 use Rattle.state.specs.State.{mark_of}
 use Rattle.state.proofs.is_marked.Goals as goal
 

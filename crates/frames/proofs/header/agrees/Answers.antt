@@ -1,18 +1,13 @@
--- The two parts are equal where the bytes are, place by place.
-use native.Mathlib.Omega.{arith}
-use Rattle.std.proofs.Common.{◌≡◌, ℕ, ◌-◌, length, rules}
-use Rattle.std.proofs.lemmas.Bool.Decides.{same_from_decides, Decides-eqb}
-use Rattle.std.proofs.lemmas.List.Edits.{length-between, get_or-between}
-use Rattle.std.proofs.lemmas.Slice.Eq.{slice_eq-Decides}
-use Rattle.frames.proofs.SameBytes.{compared}
+-- The test of each place, over all places.
+use Rattle.std.proofs.Common.{tests, ℕ, ◌-◌, Bool, get_or, eqb, refl, ◌∙◌, rules}
+use Rattle.std.proofs.lemmas.Iterator.{YieldsList-from_range}
+use Rattle.std.proofs.lemmas.Iterator.Search.{all_from_yields_List}
+use Rattle.frames.proofs.EachPlace.{all_every}
 use Rattle.frames.proofs.header.agrees.Goals as goal
 
 pub returns : goal.returns
 returns c =
-    let first : ℕ = c.args.first in
-    let end : ℕ = c.args.end in
-    let long : length c.args.head ≡ 14 = search rules in
-    same_from_decides _ _ (slice_eq-Decides Decides-eqb _ _ c.eq.result c.eq.ensures)
-    (compared (end - first) _ _ _ _
-    (length-between c.args.frame.now first end (omega arith)) (length-between c.args.head first end (omega arith))
-    (λ i h. get_or-between c.args.frame.now first end i 0 (omega arith)) (λ i h. get_or-between c.args.head first end i 0 (omega arith)))
+    let test : ℕ → Bool = λ i. eqb (get_or c.args.frame.now i 0) (get_or c.args.head i 0) in
+    all_from_yields_List test _ _ c.all.result c.all.ensures.ran
+    (YieldsList-from_range c.args.first c.args.end (c.args.end - c.args.first) refl refl) (λ x b q k. search (rules, tests))
+    ∙ all_every test c.args.first (c.args.end - c.args.first)
