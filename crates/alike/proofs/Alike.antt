@@ -1,4 +1,5 @@
 -- Both ends work as with the smaller of T and W - 1 set as T: `alike`, whose statement is `Alike` of specs/Alike.antt.
+use Rattle.std.specs.Prelude.{Ok, Err}
 use mathlib.Core.Path.{◌≡◌, sym, ap, ◌∙◌}
 use mathlib.Core.Bool.{true, false, not, ◌&&◌, ◌||◌}
 use mathlib.Core.List.{List}
@@ -17,8 +18,8 @@ use Rattle.code.specs.Word.{word_at, symbol}
 use Rattle.code.specs.Fitting.{Arrived, fits}
 use Rattle.code.proofs.Symbols.{symbol_same}
 use Rattle.elimination.specs.Values.{any_bytes, passing, has_value, values, said}
-use Rattle.protocol.specs.declared.Reply.{Reply}
-use Rattle.protocol.specs.declared.Reply.TheVariants as reply
+use Rattle.protocol.specs.Answers.{Reply}
+use Rattle.protocol.specs.declared.Told.TheVariants.{NoneYet, Whole, Lost, Clash}
 use Rattle.protocol.specs.Lengths.{message_len, body_len, row_len, row_count}
 use Rattle.protocol.specs.Frame.{remembered, sent_symbol, body_of}
 use Rattle.protocol.specs.Verdict.{row_at, reported_at, arrived, symbol_said, is_clash, is_lost, whole_byte, some_codeword, by_tests}
@@ -112,12 +113,12 @@ module _ (s : Settings) where
 
   same_buffer : (rows : List ℕ) (due t : ℕ) (r : Reply) → buffer_of s rows due t r ≡ buffer_of (at_delay s) rows due t r
   unfolding buffer_of
-  same_buffer rows due t reply.Whole =
+  same_buffer rows due t (Ok Whole) =
       λ τ. table (same_message_length τ) (λ q. whole_byte (same_said rows due t (q / s.lanes) (q % s.lanes) τ))
-  same_buffer rows due t (reply.Refused c) = λ τ. replicate (same_message_length τ) 0
-  same_buffer rows due t reply.NoneYet = λ τ. replicate (same_message_length τ) 0
-  same_buffer rows due t reply.Lost = λ τ. replicate (same_message_length τ) 0
-  same_buffer rows due t reply.Clash = λ τ. replicate (same_message_length τ) 0
+  same_buffer rows due t (Err c) = λ τ. replicate (same_message_length τ) 0
+  same_buffer rows due t (Ok NoneYet) = λ τ. replicate (same_message_length τ) 0
+  same_buffer rows due t (Ok Lost) = λ τ. replicate (same_message_length τ) 0
+  same_buffer rows due t (Ok Clash) = λ τ. replicate (same_message_length τ) 0
 
 pub alike : Alike
 alike = record { same_body = same_body; same_verdict = same_verdict; same_buffer = same_buffer }

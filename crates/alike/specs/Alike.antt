@@ -1,7 +1,7 @@
 -- Document 02 §5: settings work as those with the smaller of T and W - 1 set as T, at both ends.
 use Rattle.std.specs.Prelude.{◌≡◌, List, ℕ}
 use Rattle.code.specs.declared.settings.Settings.{Settings}
-use Rattle.protocol.specs.declared.Reply.{Reply}
+use Rattle.protocol.specs.Answers.{Reply}
 use Rattle.protocol.specs.Frame.{body_of}
 use Rattle.protocol.specs.Verdict.{verdict, buffer_of}
 use Rattle.protocol.specs.Delay.{at_delay}

@@ -6,9 +6,8 @@
 ghost use Rattle.std.specs.Prelude.{◌≡◌, ◌≤◌, ◌<◌, length};
 
 use code::Settings;
-use ends::number_of;
 use output::Output;
-use protocol::{Receiver, Reply, Sender};
+use protocol::{Cause, Receiver, Sender, Told};
 use receiver::Reported;
 use std::io::{self, BufWriter, Write};
 
@@ -47,23 +46,23 @@ fn print_bytes<W: Write>(out: &mut Output<W>, bytes: &[u8], first: usize) {
     }
 }
 
-fn print_reply<W: Write>(out: &mut Output<W>, r: Reply, message: &[u8]) {
+fn print_reply<W: Write>(out: &mut Output<W>, r: Result<Told, Cause>, message: &[u8]) {
     match r {
-        Reply::Refused(c) => {
+        Err(c) => {
             out.put(b" ");
-            out.put_decimal(number_of(c) as u64);
+            out.put_decimal(u32::from(c) as u64);
         }
-        Reply::NoneYet => {
+        Ok(Told::NoneYet) => {
             out.put(b" none");
         }
-        Reply::Whole => {
+        Ok(Told::Whole) => {
             out.put(b" whole ");
             print_bytes(out, message, 0);
         }
-        Reply::Lost => {
+        Ok(Told::Lost) => {
             out.put(b" lost");
         }
-        Reply::Clash => {
+        Ok(Told::Clash) => {
             out.put(b" clash");
         }
     }

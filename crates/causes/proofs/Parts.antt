@@ -1,5 +1,6 @@
 -- The table of a frame's report, read in its three parts: what every call in a slot meets, the header, and the frame's slot; and that of
 -- a look-up in its two.
+use Rattle.std.specs.Prelude.{Ok, Err}
 use mathlib.Core.Path.{◌≡◌, ap, ◌∙◌}
 use mathlib.Core.Bool.{Bool, true, false, not}
 use mathlib.Core.List.{List, [], ◌∷◌, ◌++◌}
@@ -9,7 +10,6 @@ use lib.ListN.{length, drop}
 use Rattle.protocol.specs.declared.Receiver.{Receiver}
 use Rattle.protocol.specs.declared.Cause.{Cause}
 use Rattle.protocol.specs.declared.Cause.TheVariants.{OtherSlot, OutOfReach}
-use Rattle.protocol.specs.declared.Answer.TheVariants as answer
 use Rattle.protocol.specs.Lengths.{receiver_len, exactly_framed}
 use Rattle.protocol.specs.Frame.{slot_bytes}
 use Rattle.protocol.specs.Causes.{Row, row, first_of, agree, slot_table, header_table, slot_cause, header_cause, frame_cause_of}
@@ -35,20 +35,20 @@ module _ (version : ℕ) (x : Receiver) (rows frame message : List ℕ) where
       one_below (slot_table x.settings framed x.due) (header_table version x.settings frame ++ slot_row)
       ∙ ap (followed_by (slot_cause x.settings framed x.due)) (one_below (header_table version x.settings frame) slot_row)
 
-  pub refused_in_slot : (c : Cause) → slot_cause x.settings framed x.due ≡ answer.Refused c
-      → answer.Refused c ≡ frame_cause_of version x rows frame message
+  pub refused_in_slot : (c : Cause) → slot_cause x.settings framed x.due ≡ Err c
+      → Err c ≡ frame_cause_of version x rows frame message
   refused_in_slot c e = rw (parts, e)
 
-  module _ (clear : slot_cause x.settings framed x.due ≡ answer.Accepted) where
-    pub refused_by_header : (c : Cause) → header_cause version x.settings frame ≡ answer.Refused c
-        → answer.Refused c ≡ frame_cause_of version x rows frame message
+  module _ (clear : slot_cause x.settings framed x.due ≡ Ok tt) where
+    pub refused_by_header : (c : Cause) → header_cause version x.settings frame ≡ Err c
+        → Err c ≡ frame_cause_of version x rows frame message
     refused_by_header c e = rw (parts, clear, e)
 
-    module _ (headed : header_cause version x.settings frame ≡ answer.Accepted) where
-      pub other_slot : of_slot ≡ false → answer.Refused OtherSlot ≡ frame_cause_of version x rows frame message
+    module _ (headed : header_cause version x.settings frame ≡ Ok tt) where
+      pub other_slot : of_slot ≡ false → Err OtherSlot ≡ frame_cause_of version x rows frame message
       other_slot e = rw (parts, clear, headed, e)
 
-      pub no_cause : of_slot ≡ true → answer.Accepted ≡ frame_cause_of version x rows frame message
+      pub no_cause : of_slot ≡ true → (Ok tt) ≡ frame_cause_of version x rows frame message
       no_cause e = rw (parts, clear, headed, e)
 
 -- ---- a look-up
@@ -62,12 +62,12 @@ module _ (x : Receiver) (rows : List ℕ) (number : ℤ) (message : List ℕ) wh
   unfolding look_up_cause loss_cause
   two_parts = one_below (loss_table x rows message) (row beyond OutOfReach ∷ [])
 
-  pub refused_as_loss : (c : Cause) → loss_cause x rows message ≡ answer.Refused c → answer.Refused c ≡ look_up_cause x rows number message
+  pub refused_as_loss : (c : Cause) → loss_cause x rows message ≡ Err c → Err c ≡ look_up_cause x rows number message
   refused_as_loss c e = rw (two_parts, e)
 
-  module _ (clear : loss_cause x rows message ≡ answer.Accepted) where
-    pub refused_out_of_reach : beyond ≡ true → answer.Refused OutOfReach ≡ look_up_cause x rows number message
+  module _ (clear : loss_cause x rows message ≡ Ok tt) where
+    pub refused_out_of_reach : beyond ≡ true → Err OutOfReach ≡ look_up_cause x rows number message
     refused_out_of_reach e = rw (two_parts, clear, e)
 
-    pub look_up_clear : beyond ≡ false → answer.Accepted ≡ look_up_cause x rows number message
+    pub look_up_clear : beyond ≡ false → (Ok tt) ≡ look_up_cause x rows number message
     look_up_clear e = rw (two_parts, clear, e)

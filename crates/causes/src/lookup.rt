@@ -4,7 +4,7 @@ ghost use Rattle.protocol.specs.Causes.{out_of_reach, look_up_cause};
 
 use crate::slots::loss_cause;
 use code::Settings;
-use protocol::{Answer, Cause, Receiver};
+use protocol::{Cause, Receiver};
 
 // Whether no look-up tells of this message: it is below the slot due less the delay, below 0, or not below the slot due.
 fn out_of_reach(s: Settings, due: u32, number: i64) -> bool
@@ -16,15 +16,12 @@ fn out_of_reach(s: Settings, due: u32, number: i64) -> bool
 }
 
 // The first cause that holds for the look-up of the message with this number, if any.
-pub fn look_up_cause(x: Receiver, rows: &[u8], number: i64, message: &[u8]) -> Answer
+pub fn look_up_cause(x: Receiver, rows: &[u8], number: i64, message: &[u8]) -> Result<(), Cause>
     ensures { result ≡ look_up_cause x rows.now number message.now }
 {
-    let found = loss_cause(x, rows, message);
-    if let Answer::Refused(c) = found {
-        return Answer::Refused(c);
-    }
+    loss_cause(x, rows, message)?;
     if out_of_reach(x.settings, x.due, number) {
-        return Answer::Refused(Cause::OutOfReach);
+        return Err(Cause::OutOfReach);
     }
-    Answer::Accepted
+    Ok(())
 }

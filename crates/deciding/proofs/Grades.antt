@@ -1,4 +1,5 @@
 -- Grades: the larger of two is that of both, and all of them together give the verdict.
+use Rattle.std.specs.Prelude.{Ok}
 use mathlib.Core.Path.{◌≡◌, refl, subst}
 use mathlib.Core.Bool.{Bool, true, false, cond, ◌||◌}
 use mathlib.Core.List.{List}
@@ -10,7 +11,7 @@ use lib.Dec.{ltb}
 use Rattle.galois.specs.Bounded.{any}
 use Rattle.code.specs.declared.settings.Settings.{Settings}
 use Rattle.code.specs.Settings.{k_of}
-use Rattle.protocol.specs.declared.Reply.TheVariants as reply
+use Rattle.protocol.specs.declared.Told.TheVariants.{Whole, Lost, Clash}
 use Rattle.protocol.specs.Verdict.{symbol_said, is_clash, is_lost, some_codeword, by_tests, none_fits, two_differ, verdict}
 use Rattle.symbols.specs.Decision.{grade, lanes_grade, symbols_grade}
 
@@ -58,34 +59,34 @@ symbols_more s rows due t i =
 
 -- ---- the grade of all symbols gives the verdict
 
-by_whole : (c l : Bool) → grade c l ≡ 0 → reply.Whole ≡ by_tests c l
+by_whole : (c l : Bool) → grade c l ≡ 0 → (Ok Whole) ≡ by_tests c l
 unfolding grade
 by_whole true l e = absurd (omega arith)
 by_whole false true e = absurd (omega arith)
 by_whole false false e = refl
 
-by_lost : (c l : Bool) → grade c l ≡ 1 → reply.Lost ≡ by_tests c l
+by_lost : (c l : Bool) → grade c l ≡ 1 → (Ok Lost) ≡ by_tests c l
 unfolding grade
 by_lost true l e = absurd (omega arith)
 by_lost false true e = refl
 by_lost false false e = absurd (omega arith)
 
-by_clash : (c l : Bool) → (grade c l ≡ 0 → ⊥) → (grade c l ≡ 1 → ⊥) → reply.Clash ≡ by_tests c l
+by_clash : (c l : Bool) → (grade c l ≡ 0 → ⊥) → (grade c l ≡ 1 → ⊥) → (Ok Clash) ≡ by_tests c l
 unfolding grade
 by_clash true l some more = refl
 by_clash false true some more = absurd (more refl)
 by_clash false false some more = absurd (some refl)
 
 module _ (s : Settings) (rows : List ℕ) (due t : ℕ) where
-  pub verdict_whole : symbols_grade s rows due t (k_of s) ≡ 0 → reply.Whole ≡ verdict s rows due t
+  pub verdict_whole : symbols_grade s rows due t (k_of s) ≡ 0 → (Ok Whole) ≡ verdict s rows due t
   unfolding symbols_grade verdict none_fits two_differ some_codeword
   verdict_whole e = by_whole (none_fits s rows due t) (two_differ s rows due t) e
 
-  pub verdict_lost : symbols_grade s rows due t (k_of s) ≡ 1 → reply.Lost ≡ verdict s rows due t
+  pub verdict_lost : symbols_grade s rows due t (k_of s) ≡ 1 → (Ok Lost) ≡ verdict s rows due t
   unfolding symbols_grade verdict none_fits two_differ some_codeword
   verdict_lost e = by_lost (none_fits s rows due t) (two_differ s rows due t) e
 
   pub verdict_clash : (symbols_grade s rows due t (k_of s) ≡ 0 → ⊥) → (symbols_grade s rows due t (k_of s) ≡ 1 → ⊥)
-      → reply.Clash ≡ verdict s rows due t
+      → (Ok Clash) ≡ verdict s rows due t
   unfolding symbols_grade verdict none_fits two_differ some_codeword
   verdict_clash some more = by_clash (none_fits s rows due t) (two_differ s rows due t) some more

@@ -1,14 +1,14 @@
 // The receiver's decision on one message: for each source symbol one elimination, and one answer for all lanes.
 #![tactic(auto)]
 
-ghost use Rattle.std.specs.Prelude.{cond, ◌≡◌, ◌<◌, ltb, length};
+ghost use Rattle.std.specs.Prelude.{cond, ◌≡◌, ◌<◌, Ok, ltb, length};
 ghost use Rattle.protocol.specs.Lengths.{message_len};
 ghost use Rattle.protocol.specs.Verdict.{verdict, buffer_of};
 ghost use Rattle.places.specs.Places.{Ready};
 
 use buffers::clear;
 use code::Settings;
-use protocol::Reply;
+use protocol::Told;
 use symbols::write_symbol;
 
 // The larger of two grades.
@@ -23,10 +23,10 @@ fn worse(a: u8, b: u8) -> u8
 
 // What the receiver says of message t, once the slots below due are reported. The buffer gets the message when it is whole, else
 // zeros.
-pub fn decided(s: Settings, rows: &[u8], due: usize, t: usize, message: &mut [u8]) -> Reply
+pub fn decided(s: Settings, rows: &[u8], due: usize, t: usize, message: &mut [u8]) -> Told
     requires { Ready s rows.now t × (due < 4294967296) × (length message.old ≡ message_len s) }
-    ensures said { result ≡ verdict s rows.now due t }
-    ensures message { message.new ≡ buffer_of s rows.now due t result }
+    ensures said { Ok result ≡ verdict s rows.now due t }
+    ensures message { message.new ≡ buffer_of s rows.now due t (Ok result) }
 {
     let matrix = encoder::systematic(s);
     let reciprocals = gf256::reciprocals();
@@ -49,11 +49,11 @@ pub fn decided(s: Settings, rows: &[u8], due: usize, t: usize, message: &mut [u8
         i += 1;
     }
     if worst == 0 {
-        return Reply::Whole;
+        return Told::Whole;
     }
     clear(message);
     if worst == 1 {
-        return Reply::Lost;
+        return Told::Lost;
     }
-    Reply::Clash
+    Told::Clash
 }

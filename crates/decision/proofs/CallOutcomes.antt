@@ -1,4 +1,5 @@
 -- What the call comes to, by the tests before each way out of it.
+use Rattle.std.specs.Prelude.{Ok, Err}
 use mathlib.Core.Path.{◌≡◌, sym, ap, ◌∙◌}
 use mathlib.Core.Bool.{false}
 use mathlib.Core.List.{List}
@@ -11,11 +12,9 @@ use Rattle.code.specs.declared.settings.Settings.{Settings}
 use Rattle.code.specs.Settings.{accepted}
 use Rattle.protocol.specs.declared.Cause.{Cause}
 use Rattle.protocol.specs.declared.Cause.TheVariants.{BadSettings, BadLength}
-use Rattle.protocol.specs.declared.Reply.{Reply}
-use Rattle.protocol.specs.declared.Reply.TheVariants as reply
+use Rattle.protocol.specs.Answers.{Reply}
 use Rattle.protocol.specs.Lengths.{message_len, receiver_len}
 use Rattle.protocol.specs.Verdict.{verdict, buffer_of}
-use Rattle.protocol.specs.declared.Answer.TheVariants as answer
 use Rattle.protocol.proofs.CauseTables.{fails}
 use Rattle.decision.specs.Call.{Decision, decision_cause, decision_of}
 
@@ -25,24 +24,24 @@ outcome r message = record { reply = r; message = message }
 
 module _ (s : Settings) (rows : List ℕ) (due t : ℕ) (message : List ℕ) where
   -- a cause that is found is refused
-  found : (c : Cause) → decision_cause s rows message ≡ answer.Refused c → outcome (reply.Refused c) message ≡ decision_of s rows due t message
+  found : (c : Cause) → decision_cause s rows message ≡ Err c → outcome (Err c) message ≡ decision_of s rows due t message
   unfolding decision_of
   found c e = rw (e, decision_of)
 
   -- settings that are not accepted
-  pub bad_settings : accepted s ≡ false → outcome (reply.Refused BadSettings) message ≡ decision_of s rows due t message
+  pub bad_settings : accepted s ≡ false → outcome (Err BadSettings) message ≡ decision_of s rows due t message
   unfolding decision_cause
   bad_settings e = found BadSettings (rw e)
 
   module _ (ok : T (accepted s)) where
     -- rows of a wrong length
-    pub bad_rows : length rows ≢ receiver_len s → outcome (reply.Refused BadLength) message ≡ decision_of s rows due t message
+    pub bad_rows : length rows ≢ receiver_len s → outcome (Err BadLength) message ≡ decision_of s rows due t message
     unfolding decision_cause
     bad_rows ne = found BadLength (rw (fails (accepted s) ok, ne_eqb (length rows) (receiver_len s) ne))
 
     module _ (full : length rows ≡ receiver_len s) where
       -- a message buffer of a wrong length
-      pub bad_message : length message ≢ message_len s → outcome (reply.Refused BadLength) message ≡ decision_of s rows due t message
+      pub bad_message : length message ≢ message_len s → outcome (Err BadLength) message ≡ decision_of s rows due t message
       unfolding decision_cause
       bad_message ne =
           found BadLength
@@ -50,7 +49,7 @@ module _ (s : Settings) (rows : List ℕ) (due t : ℕ) (message : List ℕ) whe
 
       module _ (fits : length message ≡ message_len s) where
         -- else no cause holds
-        no_cause : decision_cause s rows message ≡ answer.Accepted
+        no_cause : decision_cause s rows message ≡ Ok tt
         unfolding decision_cause
         no_cause =
             rw (fails (accepted s) ok, eq-eqb (length rows) (receiver_len s) full, eq-eqb (length message) (message_len s) fits)

@@ -1,14 +1,11 @@
 -- The decision on one message as a function of everything that is lent, for any input at all.
-use Rattle.std.specs.Prelude.{not, ◌&&◌, List, [], ◌∷◌, ℕ, eqb, length}
+use Rattle.std.specs.Prelude.{not, ◌&&◌, List, [], ◌∷◌, ℕ, eqb, length, Ok, Err}
 use Rattle.code.specs.declared.settings.Settings.{Settings}
 use Rattle.code.specs.Settings.{accepted}
 use Rattle.protocol.specs.declared.Cause.TheVariants.{BadSettings, BadLength}
-use Rattle.protocol.specs.declared.Reply.{Reply}
-use Rattle.protocol.specs.declared.Reply.TheVariants as reply
+use Rattle.protocol.specs.Answers.{Answer, Reply}
 use Rattle.protocol.specs.Lengths.{message_len, receiver_len}
 use Rattle.protocol.specs.Verdict.{verdict, buffer_of}
-use Rattle.protocol.specs.declared.Answer.{Answer}
-use Rattle.protocol.specs.declared.Answer.TheVariants as answer
 use Rattle.protocol.specs.Causes.{Row, row, first_of}
 
 -- a decision meets 1 and 2
@@ -30,6 +27,6 @@ pub record Decision : Type 0 where
 unfoldable pub decision_of : Settings → List ℕ → ℕ → ℕ → List ℕ → Decision
 decision_of s rows due t message =
     elim (decision_cause s rows message) [
-      | answer.Accepted ↦ record { reply = verdict s rows due t; message = buffer_of s rows due t (verdict s rows due t) }
-      | answer.Refused c ↦ record { reply = reply.Refused c; message = message }
+      | Ok tt ↦ record { reply = verdict s rows due t; message = buffer_of s rows due t (verdict s rows due t) }
+      | Err c ↦ record { reply = Err c; message = message }
     ]

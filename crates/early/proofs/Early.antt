@@ -1,4 +1,5 @@
 -- As early as it can be known: `early_known`, whose statement is `EarlyKnown` of specs/Early.antt.
+use Rattle.std.specs.Prelude.{Ok}
 use mathlib.Core.Path.{◌≡◌, refl, sym, ap, ◌∙◌, subst, subst⁻¹}
 use mathlib.Core.Bool.{not}
 use mathlib.Core.Logic.{⊎_elim}
@@ -16,7 +17,7 @@ use Rattle.code.specs.Fitting.{fits}
 use Rattle.code.proofs.Fits.{fits_at, fits_all}
 use Rattle.code.proofs.Shape.{Shape, shape}
 use Rattle.code.proofs.Symbols.{multiplier_below, symbol_source}
-use Rattle.protocol.specs.declared.Reply.TheVariants as reply
+use Rattle.protocol.specs.declared.Told.TheVariants.{Whole, Clash}
 use Rattle.protocol.specs.Lengths.{message_len}
 use Rattle.protocol.specs.Verdict.{arrived, verdict, buffer_of}
 use Rattle.protocol.specs.Calls.{row_before, OpenedReceiver, open_receiver_of}
@@ -118,17 +119,17 @@ module _ (s : Settings) (ok : T (accepted s)) (send_calls : List Send)
         let (u, f) = fitting some.symbol some.lane some.symbol_below some.lane_below in
         some.none_fits_lem u f
 
-    never_clash : verdict s rows due t ≡ reply.Clash → ⊥
+    never_clash : verdict s rows due t ≡ Ok Clash → ⊥
     never_clash e = none_clashes ((verdict_clash s rows due t).0 e)
 
     -- whole exactly if all words that fit so far agree
-    whole_agree : verdict s rows due t ≡ reply.Whole → Agree s (Heard told) due t
+    whole_agree : verdict s rows due t ≡ Ok Whole → Agree s (Heard told) due t
     unfolding Agree
     whole_agree e i v hi hv u w f g =
         let x = whole_bytes s rows due t e i v hi hv in
         x.all_have u (so_far_fits c t to i v hi hv u f) ∙ sym (x.all_have w (so_far_fits c t to i v hi hv w g))
 
-    agree_whole : Agree s (Heard told) due t → verdict s rows due t ≡ reply.Whole
+    agree_whole : Agree s (Heard told) due t → verdict s rows due t ≡ Ok Whole
     unfolding Agree
     agree_whole agree =
         (verdict_else s rows due t).1 (
@@ -150,7 +151,7 @@ module _ (s : Settings) (ok : T (accepted s)) (send_calls : List Send)
             (λ p hp known. absurd (subst T (fails ((arrived s rows due t 0 0).known p) known) (nothing p hp))),
       )
 
-      not-whole : verdict s rows due t ≡ reply.Whole → ⊥
+      not-whole : verdict s rows due t ≡ Ok Whole → ⊥
       not-whole e =
           let h : Shape s = shape s ok in
           let some : 0 < k_of s = omega arith in
@@ -169,7 +170,7 @@ module _ (s : Settings) (ok : T (accepted s)) (send_calls : List Send)
         sent_before s send_calls t (t + p - 0) m f a (omega arith)
 
     -- so a message that is whole was sent
-    whole_sent : verdict s rows due t ≡ reply.Whole → (message : List ℕ) × (frame : List ℕ) × SentAs (sent_of s send_calls) t message frame
+    whole_sent : verdict s rows due t ≡ Ok Whole → (message : List ℕ) × (frame : List ℕ) × SentAs (sent_of s send_calls) t message frame
     whole_sent e =
         let h : Shape s = shape s ok in
         let some : 0 < k_of s = omega arith in
@@ -180,7 +181,7 @@ module _ (s : Settings) (ok : T (accepted s)) (send_calls : List Send)
         (all_or_one (n_of s) (λ p. not ((arrived s rows due t 0 0).known p)))
 
     -- with these bytes
-    whole_as_sent : verdict s rows due t ≡ reply.Whole
+    whole_as_sent : verdict s rows due t ≡ Ok Whole
         → (message : List ℕ) × (frame : List ℕ) × SentAs (sent_of s send_calls) t message frame
         × (buffer_of s rows due t (verdict s rows due t) ≡ message)
     whole_as_sent e =
@@ -221,7 +222,7 @@ module _ (s : Settings) (ok : T (accepted s)) (send_calls : List Send)
 
   -- what is whole by the rows that one call left is whole, with the same bytes, by those that one at no earlier slot due left
   still_whole : (t : ℕ) (a b : CallMade) → Telling s made t a → Telling s made t b → reported_to a ≤ reported_to b
-      → a.after.reply ≡ reply.Whole → (b.after.reply ≡ reply.Whole) × (b.after.message ≡ a.after.message)
+      → a.after.reply ≡ Ok Whole → (b.after.reply ≡ Ok Whole) × (b.after.message ≡ a.after.message)
   still_whole t a b ta tb onward whole =
       let (still, same) = whole_stays (point t a ta).left (point t b tb).left t onward (in_time_lem t b tb) (shape s ok).lanes_positive
       (fitting s ok send_calls bytes told begun faithful t (point t b tb).left (in_time_lem t b tb)) (sym (told_by_lem t a ta).0 ∙ whole) in

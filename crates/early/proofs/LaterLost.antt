@@ -1,4 +1,5 @@
 -- Later slots are as losses to a look-up: `later_lost`, whose statement is `LaterLost` of specs/Early.antt.
+use Rattle.std.specs.Prelude.{Ok}
 use mathlib.Core.Path.{◌≡◌, sym, ap, ◌∙◌, subst}
 use mathlib.Core.List.Memᴰ
 use mathlib.Core.List.{List, [], ◌∷◌, Memᴰ}
@@ -16,8 +17,8 @@ use Rattle.code.specs.Fitting.{Arrived}
 use Rattle.code.proofs.Shape.{shape}
 use Rattle.elimination.proofs.ValueLaws.{Part, fits_part}
 use Rattle.protocol.specs.declared.Receiver.{Receiver}
-use Rattle.protocol.specs.declared.Reply.{Reply}
-use Rattle.protocol.specs.declared.Reply.TheVariants as reply
+use Rattle.protocol.specs.Answers.{Reply}
+use Rattle.protocol.specs.declared.Told.TheVariants.{Whole, Lost, Clash}
 use Rattle.protocol.specs.Lengths.{row_len, row_count}
 use Rattle.protocol.specs.Numbers.{reply_number}
 use Rattle.protocol.specs.Verdict.{arrived, verdict, buffer_of}
@@ -84,8 +85,8 @@ module _ (s : Settings) (some : 0 < s.lanes) (rows rows' : List ℕ) (due due' t
       = reply_tells (verdict s rows due t) in
       ⊎_elim
       (λ n.
-      let (no_clash, no-loss) = (verdict_else s rows due t).0 (is reply.Whole n) in
-      is reply.Whole n
+      let (no_clash, no-loss) = (verdict_else s rows due t).0 (is (Ok Whole) n) in
+      is (Ok Whole) n
       ∙ sym ((verdict_else s rows' due' t).1 (
         λ c. no_clash (clash_moves s what' what forth c),
         λ l. no-loss (lost_moves s what' what back l),
@@ -93,11 +94,11 @@ module _ (s : Settings) (some : 0 < s.lanes) (rows rows' : List ℕ) (due due' t
       (λ rest.
       ⊎_elim
       (λ n.
-      let (no_clash, l) = (verdict_lost s rows due t).0 (is reply.Lost n) in
-      is reply.Lost n
+      let (no_clash, l) = (verdict_lost s rows due t).0 (is (Ok Lost) n) in
+      is (Ok Lost) n
       ∙ sym ((verdict_lost s rows' due' t).1 (λ c. no_clash (clash_moves s what' what forth c), lost_moves s what what' forth l)))
       (λ n.
-      is reply.Clash n ∙ sym ((verdict_clash s rows' due' t).1 (clash_moves s what what' back ((verdict_clash s rows due t).0 (is reply.Clash n)))))
+      is (Ok Clash) n ∙ sym ((verdict_clash s rows' due' t).1 (clash_moves s what what' back ((verdict_clash s rows due t).0 (is (Ok Clash) n)))))
       rest)
       (verdict_one s rows due t)
 
@@ -107,7 +108,7 @@ module _ (s : Settings) (some : 0 < s.lanes) (rows rows' : List ℕ) (due due' t
       let out : List ℕ = buffer_of s rows' due' t (verdict s rows' due' t) in
       ⊎_elim
       (λ n.
-      let whole : verdict s rows' due' t ≡ reply.Whole = sym told_same ∙ reply_tells (verdict s rows due t) reply.Whole n in
+      let whole : verdict s rows' due' t ≡ (Ok Whole) = sym told_same ∙ reply_tells (verdict s rows due t) (Ok Whole) n in
       whole_list s rows due t some out (buffer_length s rows' due' t (verdict s rows' due' t))
       (λ i v hi hv.
       let x = whole_bytes s rows' due' t whole i v hi hv in

@@ -1,13 +1,13 @@
 -- Document 02 §6, as one statement about any list of sends, and any list of reports and look-ups mixed, the receiver being opened at any
 -- slot: what is whole stays whole, it is said as early as it can be known, and it is what was sent.
-use Rattle.std.specs.Prelude.{◌≡◌, ℕ, ◌+◌, ◌-◌, ◌≤◌, ◌<◌, T, ℤ, pos, length}
+use Rattle.std.specs.Prelude.{◌≡◌, ℕ, ◌+◌, ◌-◌, ◌≤◌, ◌<◌, T, ℤ, pos, length, Ok}
 use mathlib.Core.List.{List, ◌∷◌, Memᴰ}
 use Rattle.galois.specs.Byte.{Bytes}
 use Rattle.code.specs.declared.settings.Settings.{Settings}
 use Rattle.code.specs.Settings.{accepted, delay_of, k_of, n_of}
 use Rattle.code.specs.Word.{OfWord, word_at}
 use Rattle.protocol.specs.declared.Receiver.{Receiver}
-use Rattle.protocol.specs.declared.Reply.TheVariants as reply
+use Rattle.protocol.specs.declared.Told.TheVariants.{Whole, Clash}
 use Rattle.protocol.specs.Lengths.{last_slot, sender_len, receiver_len}
 use Rattle.protocol.specs.Calls.{OpenedSender, open_sender_of, OpenedReceiver, open_receiver_of, Looked, look_up_of}
 use Rattle.protocol.specs.TwoLists.{Send, SendMade, sends, Report, ReportMade, reports}
@@ -62,20 +62,20 @@ pub record Early (s : Settings) (opening : ℕ) (sent : List SendMade) (made : L
   pub demand3 : Holds s opening sent (reports_in made)
   -- once whole a message stays whole with the same bytes: in every later look-up of it that is not refused, and in the report of its
   -- last slot
-  pub stays : (t : ℕ) (a b : CallMade) → Telling s made t a → Telling s made t b → Later a b made → a.after.reply ≡ reply.Whole
-      → (b.after.reply ≡ reply.Whole) × (b.after.message ≡ a.after.message)
+  pub stays : (t : ℕ) (a b : CallMade) → Telling s made t a → Telling s made t b → Later a b made → a.after.reply ≡ Ok Whole
+      → (b.after.reply ≡ Ok Whole) × (b.after.message ≡ a.after.message)
   -- whole is said only where all words that fit what was reported so far agree on the message, and from the first slot on at which they do
   pub as_early : (t : ℕ) (a : CallMade) → Telling s made t a
-      → (a.after.reply ≡ reply.Whole → Agree s (Heard (reports_in made)) (reported_to a) t)
-      × ((first : ℕ) → first ≤ reported_to a → Agree s (Heard (reports_in made)) first t → a.after.reply ≡ reply.Whole)
+      → (a.after.reply ≡ Ok Whole → Agree s (Heard (reports_in made)) (reported_to a) t)
+      × ((first : ℕ) → first ≤ reported_to a → Agree s (Heard (reports_in made)) first t → a.after.reply ≡ Ok Whole)
   -- so it is said of every message whose own slot was heard
   pub once_heard : (t : ℕ) (a : CallMade) (frame : List ℕ) → Telling s made t a → Heard (reports_in made) t frame
-      → a.after.reply ≡ reply.Whole
+      → a.after.reply ≡ Ok Whole
   -- what is whole was sent, with these bytes
-  pub as_sent : (t : ℕ) (a : CallMade) → Telling s made t a → a.after.reply ≡ reply.Whole
+  pub as_sent : (t : ℕ) (a : CallMade) → Telling s made t a → a.after.reply ≡ Ok Whole
       → (message : List ℕ) × (frame : List ℕ) × SentAs sent t message frame × (a.after.message ≡ message)
   -- and nothing clashes
-  pub no_clash : (t : ℕ) (a : CallMade) → Telling s made t a → a.after.reply ≡ reply.Clash → ⊥
+  pub no_clash : (t : ℕ) (a : CallMade) → Telling s made t a → a.after.reply ≡ Ok Clash → ⊥
 
 -- any opening slot up to the last one, any rows lent to accepted openings, any list of sends of bytes, any list of reports and look-ups,
 -- frames being the sender's own

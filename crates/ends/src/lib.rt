@@ -1,24 +1,18 @@
-// What both ends share in code: their states, made here alone, as protocol's specs/States.antt says; the number of a cause; and whether
-// a report was accepted.
+// What both ends share in code: their states, made here alone, as protocol's specs/States.antt says.
 #![tactic(auto)]
 
 ghost use Rattle.std.specs.Prelude.{◌≡◌, ◌≤◌};
 ghost use Rattle.protocol.specs.Lengths.{last_slot};
-ghost use Rattle.protocol.specs.Causes.{number_of};
-ghost use Rattle.protocol.specs.Histories.{accepts};
 ghost use Rattle.protocol.specs.States.{sender_at, opened_sender, sent_on, receiver_at, opened_receiver, reported_on};
 
 use code::Settings;
-use protocol::{Cause, Receiver, Reply, Sender};
+use protocol::{Receiver, Sender};
 
 // A sender with these settings and this slot due.
 pub fn sender_at(s: Settings, due: u32) -> Sender
     ensures { result ≡ sender_at s due }
 {
-    Sender {
-        settings: s,
-        due: due,
-    }
+    Sender { settings: s, due }
 }
 
 // A sender as an accepted opening makes it.
@@ -33,8 +27,7 @@ pub fn next_sender(x: Sender) -> Sender
     requires { x.due ≤ last_slot }
     ensures { result ≡ sent_on x }
 {
-    let s = x.settings;
-    sender_at(s, x.due + 1)
+    sender_at(x.settings, x.due + 1)
 }
 
 // A receiver with these settings, this opening slot and this slot due.
@@ -43,8 +36,8 @@ pub fn receiver_at(s: Settings, opening: u32, due: u32) -> Receiver
 {
     Receiver {
         settings: s,
-        opening: opening,
-        due: due,
+        opening,
+        due,
     }
 }
 
@@ -60,35 +53,5 @@ pub fn next_receiver(x: Receiver) -> Receiver
     requires { x.due ≤ last_slot }
     ensures { result ≡ reported_on x }
 {
-    let s = x.settings;
-    receiver_at(s, x.opening, x.due + 1)
-}
-
-// The papers' number for a cause.
-pub fn number_of(c: Cause) -> u32
-    ensures { result ≡ number_of c }
-{
-    match c {
-        Cause::BadSettings => 1,
-        Cause::BadLength => 2,
-        Cause::PastLastSlot => 3,
-        Cause::OtherMark => 4,
-        Cause::OtherSettings => 5,
-        Cause::OtherSlot => 6,
-        Cause::LateOpening => 7,
-        Cause::OutOfReach => 8,
-    }
-}
-
-// Whether a report was accepted.
-pub fn reply_taken(reply: Reply) -> bool
-    ensures { result ≡ accepts reply }
-{
-    match reply {
-        Reply::Refused(c) => false,
-        Reply::NoneYet => true,
-        Reply::Whole => true,
-        Reply::Lost => true,
-        Reply::Clash => true,
-    }
+    receiver_at(x.settings, x.opening, x.due + 1)
 }

@@ -1,4 +1,5 @@
 -- What holds of reports that were fed from an accepted pair: `pair_fed`, whose statement is `PairFed` of specs/Fed.antt.
+use Rattle.std.specs.Prelude.{Ok, Err}
 use mathlib.Core.Path.{◌≡◌, refl, ap, ◌∙◌}
 use mathlib.Core.Bool.{Bool, true, false, not}
 use mathlib.Core.Logic.{◌⊎◌, inl, inr, ⊎_elim, ◌↔◌}
@@ -15,8 +16,6 @@ use Rattle.code.specs.Settings.{accepted}
 use Rattle.protocol.specs.declared.Receiver.{Receiver}
 use Rattle.protocol.specs.declared.Cause.{Cause}
 use Rattle.protocol.specs.declared.Cause.TheVariants.{BadLength, PastLastSlot}
-use Rattle.protocol.specs.declared.Answer.TheVariants as answer
-use Rattle.protocol.specs.declared.Reply.TheVariants as reply
 use Rattle.protocol.specs.Lengths.{last_slot, message_len, frame_len, receiver_len, exactly, exactly_framed}
 use Rattle.protocol.specs.Frame.{mark, five, slot_bytes, header}
 use Rattle.protocol.specs.Causes.{check, first_of, agree, slot_table, loss_table, frame_table}
@@ -95,27 +94,27 @@ pub data FedCall (s : Settings) (first second : List ℕ) (m : ReportMade) : Typ
 -- ---- the causes that are met
 
 -- a table of two causes finds one of the two
-one_of_two : (a b : Bool) (c : Cause) → check a BadLength (check b PastLastSlot answer.Accepted) ≡ answer.Refused c
+one_of_two : (a b : Bool) (c : Cause) → check a BadLength (check b PastLastSlot (Ok tt)) ≡ Err c
     → (c ≡ BadLength) ⊎ (c ≡ PastLastSlot)
 one_of_two true b c e = inl (cc)
 one_of_two false true c e = inr (cc)
 one_of_two false false c e = let z : ◌≡◌ {A = ℕ} 0 1 = cc in absurd (omega arith)
 
 -- so does that of a call in a slot where the settings are accepted
-slot_causes : (s : Settings) (exact : Bool) (due : ℕ) (c : Cause) → T (accepted s) → first_of (slot_table s exact due) ≡ answer.Refused c
+slot_causes : (s : Settings) (exact : Bool) (due : ℕ) (c : Cause) → T (accepted s) → first_of (slot_table s exact due) ≡ Err c
     → (c ≡ BadLength) ⊎ (c ≡ PastLastSlot)
 slot_causes s exact due c ok e = one_of_two (not exact) (ltb last_slot due) c (rw (fails (accepted s) ok) at e)
 
 module _ (x : Receiver) (rows message : List ℕ) (ok : T (accepted x.settings)) (c : Cause) where
   -- a loss report meets no others
-  loss_causes : (loss_of x rows message).reply ≡ reply.Refused c → (c ≡ BadLength) ⊎ (c ≡ PastLastSlot)
+  loss_causes : (loss_of x rows message).reply ≡ Err c → (c ≡ BadLength) ⊎ (c ≡ PastLastSlot)
   loss_causes e =
       let s = x.settings in
       slot_causes s (exactly s (receiver_len s) (length rows) (length message)) x.due c ok
       (first_found c (loss_table x rows message) (((demand1.loss x rows message).first c).0 (ap reply_number e)))
 
   -- nor does the report of a frame with the header of the slot due
-  frame_causes : (frame : List ℕ) → take 14 frame ≡ header 1 x.settings x.due → (heard_of x rows frame message).reply ≡ reply.Refused c
+  frame_causes : (frame : List ℕ) → take 14 frame ≡ header 1 x.settings x.due → (heard_of x rows frame message).reply ≡ Err c
       → (c ≡ BadLength) ⊎ (c ≡ PastLastSlot)
   frame_causes frame headed e =
       let s = x.settings in
@@ -161,7 +160,7 @@ module _ (s : Settings) (first second : List ℕ) (ok : pair_cause s first secon
         by (as_heard frame message some e its) = rw e (λ h. (h.0, h.2), λ h. (h.0, its.exact, h.1, its.headed a b))
 
     -- and else it is one of two
-    caused : (c : Cause) → m.after.reply ≡ reply.Refused c → (c ≡ BadLength) ⊎ (c ≡ PastLastSlot)
+    caused : (c : Cause) → m.after.reply ≡ Err c → (c ≡ BadLength) ⊎ (c ≡ PastLastSlot)
     unfolding report_of
     caused c e = by (rw (list.each m listed).came at e) (call_in m listed)
       where
@@ -171,7 +170,7 @@ module _ (s : Settings) (first second : List ℕ) (ok : pair_cause s first secon
         settings : T (accepted m.before.settings)
         settings = rw same (checked s first second ok).settings
 
-        by : (report_of m.before m.rows m.call).reply ≡ reply.Refused c → FedCall s first second m
+        by : (report_of m.before m.rows m.call).reply ≡ Err c → FedCall s first second m
             → (c ≡ BadLength) ⊎ (c ≡ PastLastSlot)
         by came (as_lost message none is) = loss_causes m.before m.rows message settings c (rw is at came)
         by came (as_heard frame message some is its) =

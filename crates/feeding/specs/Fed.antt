@@ -1,6 +1,6 @@
 -- Document 02 §7: a receiver opened at any slot and fed from an accepted pair, slot by slot from its opening, the parts as frames and the
 -- empty ones as losses. It meets no 4, 5 or 6, a slot is lost exactly if neither recording has it, and demand 3 holds of it.
-use Rattle.std.specs.Prelude.{◌≡◌, Bool, true, false, not, ◌||◌, ◌⊎◌, ◌↔◌, ℕ, ◌+◌, ◌-◌, ◌≤◌, ◌<◌, T, eqb, length}
+use Rattle.std.specs.Prelude.{◌≡◌, Bool, true, false, not, ◌||◌, ◌⊎◌, ◌↔◌, ℕ, ◌+◌, ◌-◌, ◌≤◌, ◌<◌, T, eqb, length, Ok, Err}
 use mathlib.Core.List.{List, [], ◌∷◌, Memᴰ}
 use Rattle.galois.specs.Byte.{Bytes}
 use Rattle.code.specs.declared.settings.Settings.{Settings}
@@ -9,7 +9,7 @@ use Rattle.repair.specs.Fair.{Fair}
 use Rattle.protocol.specs.declared.Receiver.{Receiver}
 use Rattle.protocol.specs.declared.Cause.{Cause}
 use Rattle.protocol.specs.declared.Cause.TheVariants.{BadLength, PastLastSlot}
-use Rattle.protocol.specs.declared.Reply.TheVariants as reply
+use Rattle.protocol.specs.declared.Told.TheVariants.{Whole}
 use Rattle.protocol.specs.Lengths.{last_slot, message_len, sender_len, receiver_len}
 use Rattle.protocol.specs.Calls.{OpenedSender, open_sender_of, OpenedReceiver, open_receiver_of, Reported}
 use Rattle.protocol.specs.TwoLists.{Send, SendMade, sends, Report, heard, missed, report_of, ReportMade, reports}
@@ -53,7 +53,7 @@ pub record Feeds (s : Settings) (first second : List ℕ) (told : List ReportMad
   pub taken : (m : ReportMade) → Memᴰ m told
       → T (accepts m.after.reply) ↔ ((length (buffer_of m.call) ≡ message_len s) × (m.before.due ≤ last_slot))
   -- no other cause is met: neither 4, nor 5, nor 6
-  pub causes : (m : ReportMade) → Memᴰ m told → (c : Cause) → m.after.reply ≡ reply.Refused c → (c ≡ BadLength) ⊎ (c ≡ PastLastSlot)
+  pub causes : (m : ReportMade) → Memᴰ m told → (c : Cause) → m.after.reply ≡ Err c → (c ≡ BadLength) ⊎ (c ≡ PastLastSlot)
   -- a slot that was reported is lost exactly if neither recording has it
   pub lost : (m : ReportMade) → Memᴰ m told → T (accepts m.after.reply)
       → lost_at told m.before.due ≡ neither s first second m.before.due
@@ -80,7 +80,7 @@ pub record HoldsOfPair (s : Settings) (opening : ℕ) (first second : List ℕ) 
   pub on_time : (t : ℕ) (r : ReportMade) → Memᴰ r told → r.before.due ≡ t + delay_of s → T (accepts r.after.reply)
       → Fair s (lost_since opening (neither s first second)) (t + 1 - k_of s) (t + delay_of s)
       → (message : List ℕ) × (frame : List ℕ) × SentAs sent t message frame
-      × (r.after.reply ≡ reply.Whole) × (r.after.message ≡ message)
+      × (r.after.reply ≡ Ok Whole) × (r.after.message ≡ message)
 
 -- the same, with any list of sends of bytes, the frames of both recordings being the sender's
 unfoldable pub PairDemand3 : Type 0

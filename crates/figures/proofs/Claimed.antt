@@ -1,5 +1,6 @@
 -- Demand 3 on lists that are computed, send by send and report by report, from any opening slot on: what it says of one report. No
 -- verdict is computed for it.
+use Rattle.std.specs.Prelude.{Ok}
 use mathlib.Core.Path.{◌≡◌, refl, ap, ◌∙◌, subst, subst⁻¹}
 use mathlib.Core.Bool.{Bool, true, false, ◌&&◌, ◌||◌, and-false}
 use mathlib.Core.Logic.{⊎_elim}
@@ -14,8 +15,7 @@ use Rattle.code.specs.declared.settings.Settings.{Settings}
 use Rattle.code.specs.Settings.{accepted, delay_of, k_of}
 use Rattle.repair.specs.Fair.{fair_slots, Fair}
 use Rattle.repair.proofs.FairTest.{fair_tested}
-use Rattle.protocol.specs.declared.Answer.TheVariants as answer
-use Rattle.protocol.specs.declared.Reply.TheVariants as reply
+use Rattle.protocol.specs.declared.Told.TheVariants.{Whole}
 use Rattle.protocol.specs.Lengths.{last_slot, message_len, sender_len, receiver_len}
 use Rattle.protocol.specs.Calls.{OpenedSender, open_sender_of, moved_on, loss_of, heard_of}
 use Rattle.protocol.specs.TwoLists.{Send, SendMade, sends, Report, heard, missed, report_of, ReportMade, reports}
@@ -47,7 +47,7 @@ OfFrame frame (missed m) = Unit {0}
 
 -- a send and a report are of the same slot: the send is accepted, and the report is of a loss or of the frame handed out
 abbrev pub SameSlot : SendMade → ReportMade → Type 0
-SameSlot c r = (c.after.answer ≡ answer.Accepted) × (c.before.due ≡ r.before.due) × OfFrame c.after.frame r.call
+SameSlot c r = (c.after.answer ≡ Ok tt) × (c.before.due ≡ r.before.due) × OfFrame c.after.frame r.call
 
 -- sends and reports that go slot by slot, a send for each report
 abbrev pub InStep : List SendMade → List ReportMade → Type 0
@@ -130,8 +130,8 @@ module _ (s : Settings) (ok : T (accepted s)) (slot : ℕ) (in_time_lem : slot �
   -- where slots t - k + 1 to t + T are fair, a report of the frame of slot t + T hands out whole what was given to the send of slot t
   pub handed_out : (t : ℕ) → T (fair_slots s (lost_since slot (lost_at (losses_in told))) (t + 1 - k_of s) (t + delay_of s))
       → (r : ReportMade) (f m : List ℕ) → Memᴰ r told → r.before.due ≡ t + delay_of s → r.call ≡ heard f m → length m ≡ message_len s
-      → (c : SendMade) → Memᴰ c sent → c.after.answer ≡ answer.Accepted → c.before.due ≡ t
-      → (r.after.reply ≡ reply.Whole) × (r.after.message ≡ c.call.message)
+      → (c : SendMade) → Memᴰ c sent → c.after.answer ≡ Ok tt → c.before.due ≡ t
+      → (r.after.reply ≡ Ok Whole) × (r.after.message ≡ c.call.message)
   handed_out t test r f m listed last call full c at taken due =
       let own = own_frame sent slot told step r f m listed call in
       let passed : T (accepts r.after.reply) = holds.own_frame r f m own.0 listed call own.1 full in

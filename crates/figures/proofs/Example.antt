@@ -1,4 +1,5 @@
 -- Document 01's example, computed from the definition: the reports go through elimination, which gives the same.
+use Rattle.std.specs.Prelude.{Ok, Err}
 use mathlib.Core.Path.{◌≡◌, refl, ap, ◌∙◌}
 use mathlib.Core.Bool.{Bool, true, false, ◌&&◌}
 use mathlib.Core.List.{List, [], ◌∷◌, ◌++◌}
@@ -9,7 +10,6 @@ use Rattle.galois.proofs.Cases.{and_left, and_right, both_pass}
 use Rattle.code.specs.declared.settings.Settings.{Settings}
 use Rattle.code.specs.Settings.{accepted}
 use Rattle.protocol.specs.declared.Receiver.{Receiver}
-use Rattle.protocol.specs.declared.Answer.TheVariants as answer
 use Rattle.protocol.specs.Lengths.{message_len, frame_len, receiver_len}
 use Rattle.protocol.specs.Calls.{OpenedReceiver, open_receiver_of, Reported, message_due, heard_of}
 use Rattle.protocol.specs.TwoLists.{Report, heard, missed, report_of}
@@ -32,8 +32,8 @@ unfoldable quick_played : List (List ℕ) → Rest
 quick_played [] x rows message = []
 quick_played (frame ∷ frames) x rows message =
     elim (frame_stop x frame) [
-      | answer.Refused c ↦ stop_line c
-      | answer.Accepted ↦
+      | Err c ↦ stop_line c
+      | Ok tt ↦
           quick_skipped (slot_in frame - x.due)
           (λ y rows' message'. and_then y (quick_report y rows' (heard frame message')) (quick_played frames)) x rows message
     ]
@@ -82,7 +82,7 @@ module _ (frame : List ℕ) (bytes : T (small frame)) (frames : List (List ℕ))
   frame_alike : Alike (played (frame ∷ frames)) (quick_played (frame ∷ frames))
   unfolding played quick_played Alike
   frame_alike x ok rows hs message =
-      ap (λ (rest : List ℕ). elim (frame_stop x frame) [ answer.Refused c ↦ stop_line c | answer.Accepted ↦ rest ])
+      ap (λ (rest : List ℕ). elim (frame_stop x frame) [ Err c ↦ stop_line c | Ok tt ↦ rest ])
       (skipped_alike (slot_in frame - x.due) slowly quickly heard_alike x ok rows hs message)
 
 played_alike : (frames : List (List ℕ)) → T (small_all frames) → Alike (played frames) (quick_played frames)

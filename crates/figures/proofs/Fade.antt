@@ -1,5 +1,6 @@
 -- Document 02 §1 from demand 3: a fade of four slots, inside which one frame was heard. By document 01's rule its losses are not fair;
 -- they are fair now, and the demand hands out the message of its first slot whole, as sent.
+use Rattle.std.specs.Prelude.{Ok}
 use mathlib.Core.Path.{◌≡◌, refl, subst⁻¹}
 use mathlib.Core.Bool.{Bool, not}
 use mathlib.Core.List.{List, [], ◌∷◌, Memᴰ}
@@ -10,7 +11,7 @@ use Rattle.galois.specs.Bounded.{every, any}
 use Rattle.galois.specs.Table.{table}
 use Rattle.code.specs.declared.settings.Settings.{Settings}
 use Rattle.repair.specs.FairBefore.{run_at, one_run, stretch_before}
-use Rattle.protocol.specs.declared.Reply.TheVariants as reply
+use Rattle.protocol.specs.declared.Told.TheVariants.{Whole}
 use Rattle.protocol.specs.Lengths.{frame_len, message_len}
 use Rattle.protocol.specs.TwoLists.{Send, Report, ReportMade}
 use Rattle.protocol.specs.Histories.{lost_at}
@@ -41,7 +42,7 @@ fade_reports = reports_of (replicate (message_len settings) 7) fates fade_frames
 abbrev pub Fade : Type 0
 Fade =
     (r : ReportMade) × Memᴰ r (reported settings 0 fade_reports) × (r.before.due ≡ 5)
-    × (r.after.reply ≡ reply.Whole) × (r.after.message ≡ 1 ∷ 2 ∷ 3 ∷ 4 ∷ 5 ∷ [])
+    × (r.after.reply ≡ Ok Whole) × (r.after.message ≡ 1 ∷ 2 ∷ 3 ∷ 4 ∷ 5 ∷ [])
 
 -- by document 01's rule the losses of the four slots are not fair
 pub not_fair_before : T (not (stretch_before settings (lost_at (reported settings 0 fade_reports)) 0 4))

@@ -1,11 +1,12 @@
 -- Document 01, figure 10, from demand 3: the terms of the demand are met by the card's own sends and reports.
 -- What the reports get is computed; that slot 3's is accepted, and message 0 then whole, 01 00 in hex, is what the demand says.
+use Rattle.std.specs.Prelude.{Ok}
 use mathlib.Core.Path.{◌≡◌, refl}
 use mathlib.Core.List.{List, [], ◌∷◌, Memᴰ}
 use Prim.Native.Nat.{ℕ, zero-le}
 use lib.ListN.{get_or, replicate}
 use Rattle.code.specs.declared.settings.Settings.{Settings}
-use Rattle.protocol.specs.declared.Reply.TheVariants as reply
+use Rattle.protocol.specs.declared.Told.TheVariants.{Whole}
 use Rattle.protocol.specs.TwoLists.{heard, ReportMade}
 use Rattle.figures.specs.Card.{set_to, send_calls, sent, frames_of, Fate, lost, own, reports_of, calls, reported}
 use Rattle.figures.proofs.Computing.{computing}
@@ -26,7 +27,7 @@ frame_at t = get_or (frames_of (sent card 4)) t []
 abbrev pub Figure : Type 0
 Figure =
     (r : ReportMade) × Memᴰ r (reported card 0 (calls card fates)) × (r.before.due ≡ 3)
-    × (r.call ≡ heard (frame_at 3) (replicate 2 7)) × (r.after.reply ≡ reply.Whole) × (r.after.message ≡ 0x01 ∷ 0x00 ∷ [])
+    × (r.call ≡ heard (frame_at 3) (replicate 2 7)) × (r.after.reply ≡ Ok Whole) × (r.after.message ≡ 0x01 ∷ 0x00 ∷ [])
 
 -- demand 3 says it, all of its terms being met
 pub figure_ten : Figure

@@ -1,5 +1,6 @@
 -- Document 02 §6 from the law of look-ups, on the card's messages: slot 0 is lost, slot 1 is heard, and message 1 is looked up right after
 -- it. The look-up tells it whole, as sent, three slots before its report.
+use Rattle.std.specs.Prelude.{Ok}
 use mathlib.Core.Path.{◌≡◌, refl, ◌∙◌}
 use mathlib.Core.List.{List, [], ◌∷◌, Memᴰ}
 use Prim.Native.Nat.{ℕ, zero-le}
@@ -7,7 +8,7 @@ use lib.Dec.{T, lit<, lit≤}
 use lib.IntN.{pos}
 use lib.ListN.{get_or, replicate}
 use Rattle.code.specs.declared.settings.Settings.{Settings}
-use Rattle.protocol.specs.declared.Reply.TheVariants as reply
+use Rattle.protocol.specs.declared.Told.TheVariants.{Whole}
 use Rattle.protocol.specs.Lengths.{sender_len, receiver_len}
 use Rattle.protocol.specs.States.{receiver_at}
 use Rattle.protocol.specs.Calls.{OpenedReceiver, open_receiver_of}
@@ -48,7 +49,7 @@ known =
 abbrev pub Known : Type 0
 Known =
     (a : CallMade) × Memᴰ a known × (a.before.due ≡ 2) × (a.call ≡ look_up (pos 1) buffer)
-    × (a.after.reply ≡ reply.Whole) × (a.after.message ≡ 0x00 ∷ 0x01 ∷ [])
+    × (a.after.reply ≡ Ok Whole) × (a.after.message ≡ 0x00 ∷ 0x01 ∷ [])
 
 -- the law holds of these lists
 early : Early card 0 (sent_by card (send_calls card 2)) known

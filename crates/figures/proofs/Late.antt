@@ -1,12 +1,13 @@
 -- Document 02 §3 from demand 3: a set that is switched on at slot 2, after two messages of the card were sent. The slots before it count
 -- as losses, two in a row, which are fair; so the demand hands out both messages whole, as sent, at slots 3 and 4.
+use Rattle.std.specs.Prelude.{Ok}
 use mathlib.Core.Path.{◌≡◌, refl}
 use mathlib.Core.List.{List, [], ◌∷◌, Memᴰ}
 use Prim.Native.Nat.{ℕ, ◌≤◌}
 use native.Mathlib.Omega.{arith}
 use lib.ListN.{get_or, drop, replicate}
 use Rattle.code.specs.declared.settings.Settings.{Settings}
-use Rattle.protocol.specs.declared.Reply.TheVariants as reply
+use Rattle.protocol.specs.declared.Told.TheVariants.{Whole}
 use Rattle.protocol.specs.Lengths.{last_slot}
 use Rattle.protocol.specs.TwoLists.{Report, ReportMade}
 use Rattle.figures.specs.Card.{set_to, send_calls, sent, frames_of, own, reports_of, reported}
@@ -29,7 +30,7 @@ late_reports = reports_of (replicate 2 7) (own ∷ own ∷ own ∷ []) (drop 2 f
 abbrev pub HandsOut : ℕ → List ℕ → Type 0
 HandsOut slot message =
     (r : ReportMade) × Memᴰ r (reported card 2 late_reports) × (r.before.due ≡ slot)
-    × (r.after.reply ≡ reply.Whole) × (r.after.message ≡ message)
+    × (r.after.reply ≡ Ok Whole) × (r.after.message ≡ message)
 
 in_time_lem : 2 ≤ last_slot
 unfolding last_slot

@@ -1,13 +1,14 @@
 -- Document 02 §5's example, a window of three slots and T = 9, which works as T = 2: its frames are those of T = 2 but for the T in their
 -- headers, for which the receiver of the one refuses the other's; and demand 3 hands out whole, as sent, what a burst of two slots lost.
+use Rattle.std.specs.Prelude.{Ok, Err}
 use mathlib.Core.Path.{◌≡◌, refl}
 use mathlib.Core.List.{List, [], ◌∷◌, map, ◌++◌, Memᴰ}
 use Prim.Native.Nat.{ℕ, zero-le}
 use lib.ListN.{get_or, take, drop, replicate}
 use Rattle.code.specs.declared.settings.Settings.{Settings}
 use Rattle.protocol.specs.declared.Cause.TheVariants.{OtherSettings}
-use Rattle.protocol.specs.declared.Reply.{Reply}
-use Rattle.protocol.specs.declared.Reply.TheVariants as reply
+use Rattle.protocol.specs.Answers.{Reply}
+use Rattle.protocol.specs.declared.Told.TheVariants.{Whole}
 use Rattle.protocol.specs.TwoLists.{Report, heard, ReportMade}
 use Rattle.figures.specs.Card.{set_to, send_calls, sent, frames_of, lost, own, reports_of, reported}
 use Rattle.figures.proofs.Computing.{computing}
@@ -36,8 +37,8 @@ same_frames = refl
 abbrev replies_to : Settings → Settings → List Reply
 replies_to s other = map (λ r. r.after.reply) (reported s 0 (heard (get_or (frames other) 0 []) (replicate 2 7) ∷ []))
 
-pub refuse_each_other : (replies_to short plain ≡ reply.Refused OtherSettings ∷ [])
-    × (replies_to plain short ≡ reply.Refused OtherSettings ∷ [])
+pub refuse_each_other : (replies_to short plain ≡ Err OtherSettings ∷ [])
+    × (replies_to plain short ≡ Err OtherSettings ∷ [])
 unfolding computing listing send_calls sent frames_of
 refuse_each_other = (refl, refl)
 
@@ -49,7 +50,7 @@ short_reports = reports_of (replicate 2 7) (lost ∷ lost ∷ own ∷ own ∷ []
 abbrev pub HandsOut : ℕ → List ℕ → Type 0
 HandsOut slot message =
     (r : ReportMade) × Memᴰ r (reported short 0 short_reports) × (r.before.due ≡ slot)
-    × (r.after.reply ≡ reply.Whole) × (r.after.message ≡ message)
+    × (r.after.reply ≡ Ok Whole) × (r.after.message ≡ message)
 
 -- demand 3 says it, all of its terms being met: two slots after each
 pub short_window : HandsOut 2 (0x01 ∷ 0x00 ∷ []) × HandsOut 3 (0x00 ∷ 0x01 ∷ [])

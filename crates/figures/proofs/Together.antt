@@ -1,6 +1,7 @@
 -- Document 02 §7 on the card's messages: of slots 0 to 4 the first aerial heard 2 and 4, the second 3. A receiver that is fed from one
 -- recording alone loses message 0; fed from both, it hands out messages 0 and 1 whole, as sent, by demand 3, though neither heard a slot
 -- of theirs.
+use Rattle.std.specs.Prelude.{Ok}
 use mathlib.Core.Path.{◌≡◌, refl, ◌∙◌, subst⁻¹}
 use mathlib.Core.List.{List, [], ◌∷◌, ◌++◌, Memᴰ}
 use Prim.Native.Nat.{ℕ, zero, suc, ◌+◌, ◌-◌, zero-le}
@@ -11,9 +12,8 @@ use Rattle.code.specs.declared.settings.Settings.{Settings}
 use Rattle.code.specs.Settings.{delay_of, k_of}
 use Rattle.repair.specs.Fair.{fair_slots}
 use Rattle.repair.proofs.FairTest.{fair_tested}
-use Rattle.protocol.specs.declared.Answer.TheVariants as answer
-use Rattle.protocol.specs.declared.Reply.{Reply}
-use Rattle.protocol.specs.declared.Reply.TheVariants as reply
+use Rattle.protocol.specs.Answers.{Reply}
+use Rattle.protocol.specs.declared.Told.TheVariants.{Whole, Lost}
 use Rattle.protocol.specs.Lengths.{sender_len, receiver_len}
 use Rattle.protocol.specs.Calls.{OpenedReceiver, open_receiver_of}
 use Rattle.protocol.specs.TwoLists.{SendMade, Report, heard, ReportMade, reports}
@@ -65,10 +65,10 @@ Tells told slot said message =
 -- neither recording is enough: alone, each loses message 0; together they give both messages
 abbrev pub Together : Type 0
 Together =
-    Tells (fed_from first []) 3 reply.Lost (0x00 ∷ 0x00 ∷ [])
-    × Tells (fed_from [] second) 3 reply.Lost (0x00 ∷ 0x00 ∷ [])
-    × Tells (fed_from first second) 3 reply.Whole (0x01 ∷ 0x00 ∷ [])
-    × Tells (fed_from first second) 4 reply.Whole (0x00 ∷ 0x01 ∷ [])
+    Tells (fed_from first []) 3 (Ok Lost) (0x00 ∷ 0x00 ∷ [])
+    × Tells (fed_from [] second) 3 (Ok Lost) (0x00 ∷ 0x00 ∷ [])
+    × Tells (fed_from first second) 3 (Ok Whole) (0x01 ∷ 0x00 ∷ [])
+    × Tells (fed_from first second) 4 (Ok Whole) (0x00 ∷ 0x01 ∷ [])
 
 -- what the recordings and the reports are computed by: an `unfolding` line that names `feeding` opens all of these
 unfoldable feeding : Unit {0}
@@ -98,7 +98,7 @@ told_quickly one two bytes slot said message =
 -- ---- together
 
 -- an accepted send of the card's
-sent_as : (c : SendMade) → Memᴰ c (sent card 5) → c.after.answer ≡ answer.Accepted
+sent_as : (c : SendMade) → Memᴰ c (sent card 5) → c.after.answer ≡ Ok tt
     → SentAs (sent card 5) c.before.due c.call.message c.after.frame
 sent_as c at taken = record { send = c; listed = at; taken = taken; slot = refl; given = refl; out = refl }
 
@@ -128,7 +128,7 @@ holds =
 handed_out : (t : ℕ) → T (fair_slots card (lost_since 0 (neither card first second)) (t + 1 - k_of card) (t + delay_of card))
     → (r : ReportMade) → Memᴰ r (fed_from first second) → r.before.due ≡ t + delay_of card
     → {last frame : List ℕ} → r.call ≡ heard frame (replicate 2 7) → SentAs (sent card 5) r.before.due last frame
-    → {message out : List ℕ} → SentAs (sent card 5) t message out → Tells (fed_from first second) (t + delay_of card) reply.Whole message
+    → {message out : List ℕ} → SentAs (sent card 5) t message out → Tells (fed_from first second) (t + delay_of card) (Ok Whole) message
 unfolding computing
 handed_out t test r at due call own was =
     let passed = holds.demand3.own_frame r _ _ _ at call own refl in
@@ -140,8 +140,8 @@ handed_out t test r at due call own was =
 pub together : Together
 unfolding feeding
 together = (
-  told_quickly first [] tt 3 reply.Lost _ (_, at_three, refl, refl, refl),
-  told_quickly [] second tt 3 reply.Lost _ (_, at_three, refl, refl, refl),
+  told_quickly first [] tt 3 (Ok Lost) _ (_, at_three, refl, refl, refl),
+  told_quickly [] second tt 3 (Ok Lost) _ (_, at_three, refl, refl, refl),
   handed_out 0 tt _ at_three refl refl (sent_as _ at_three refl) (sent_as _ (Memᴰ.head refl) refl),
   handed_out 1 tt _ at_four refl refl (sent_as _ at_four refl) (sent_as _ (Memᴰ.tail (Memᴰ.head refl)) refl),
 )

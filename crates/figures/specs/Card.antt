@@ -1,5 +1,5 @@
 -- Document 01, "Figures on the card": a row for each, with what the definitions give beside what the card says.
-use Rattle.std.specs.Prelude.{List, [], ◌∷◌, map, ◌++◌, ℕ, zero, suc, ◌+◌, get_or, length, take, drop, replicate}
+use Rattle.std.specs.Prelude.{List, [], ◌∷◌, map, ◌++◌, ℕ, zero, suc, ◌+◌, get_or, length, take, drop, replicate, Ok}
 use Rattle.galois.specs.Reciprocal.{numbered}
 use Rattle.galois.specs.Narrow.{◌⊠◌}
 use Rattle.galois.specs.Byte.{◌⊗◌, reciprocal}
@@ -8,8 +8,8 @@ use Rattle.code.specs.Matrix.{entry}
 use Rattle.code.specs.Settings.{delay_of, k_of}
 use Rattle.galois.specs.Table.{table}
 use Rattle.code.specs.Word.{symbol}
-use Rattle.protocol.specs.declared.Reply.{Reply}
-use Rattle.protocol.specs.declared.Reply.TheVariants as reply
+use Rattle.protocol.specs.Answers.{Reply}
+use Rattle.protocol.specs.declared.Told.TheVariants.{Whole, Lost, Clash}
 use Rattle.protocol.specs.Lengths.{message_len, frame_len, sender_len, receiver_len}
 use Rattle.protocol.specs.Calls.{OpenedSender, OpenedReceiver, open_sender_of, open_receiver_of, message_due}
 use Rattle.protocol.specs.TwoLists.{Send, SendMade, sends, Report, heard, missed, ReportMade, reports}
@@ -146,22 +146,22 @@ figures =
     ∷ record {
       number = 10;
       given = told (told_of (set_to 3 2 2) (lost ∷ lost ∷ own ∷ own ∷ []));
-      card = told (record { about = 0; slot = 3; reply = reply.Whole; message = 0x01 ∷ 0x00 ∷ [] } ∷ []);
+      card = told (record { about = 0; slot = 3; reply = Ok Whole; message = 0x01 ∷ 0x00 ∷ [] } ∷ []);
     }
     ∷ record {
       number = 11;
       given = told (told_of (set_to 3 2 2) (lost ∷ lost ∷ lost ∷ own ∷ own ∷ own ∷ []));
       card = told
-          (record { about = 0; slot = 3; reply = reply.Lost; message = 0x00 ∷ 0x00 ∷ [] }
-          ∷ record { about = 1; slot = 4; reply = reply.Lost; message = 0x00 ∷ 0x00 ∷ [] }
-          ∷ record { about = 2; slot = 5; reply = reply.Whole; message = 0x00 ∷ 0x00 ∷ [] } ∷ []);
+          (record { about = 0; slot = 3; reply = Ok Lost; message = 0x00 ∷ 0x00 ∷ [] }
+          ∷ record { about = 1; slot = 4; reply = Ok Lost; message = 0x00 ∷ 0x00 ∷ [] }
+          ∷ record { about = 2; slot = 5; reply = Ok Whole; message = 0x00 ∷ 0x00 ∷ [] } ∷ []);
     }
     ∷ record {
       number = 12;
       given = told (told_of (set_to 3 2 2) (own ∷ own ∷ altered (0x00 ∷ 0x00 ∷ 0x02 ∷ 0x00 ∷ []) ∷ own ∷ own ∷ own ∷ []));
       card = told
-          (record { about = 0; slot = 3; reply = reply.Clash; message = 0x00 ∷ 0x00 ∷ [] }
-          ∷ record { about = 1; slot = 4; reply = reply.Clash; message = 0x00 ∷ 0x00 ∷ [] }
-          ∷ record { about = 2; slot = 5; reply = reply.Whole; message = 0x00 ∷ 0x00 ∷ [] } ∷ []);
+          (record { about = 0; slot = 3; reply = Ok Clash; message = 0x00 ∷ 0x00 ∷ [] }
+          ∷ record { about = 1; slot = 4; reply = Ok Clash; message = 0x00 ∷ 0x00 ∷ [] }
+          ∷ record { about = 2; slot = 5; reply = Ok Whole; message = 0x00 ∷ 0x00 ∷ [] } ∷ []);
     }
     ∷ []

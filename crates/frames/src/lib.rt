@@ -10,7 +10,7 @@ ghost use Rattle.frames.specs.Fields.{settings_at, slot_at, slot_in};
 
 use code::Settings;
 pub use header::{agrees, header_bytes, settings_bytes};
-use protocol::{Answer, Cause};
+use protocol::Cause;
 pub use reading::slot_read_cause;
 
 // W, T, B, N and L, from the place `start`. Each is read at its place: a pattern over the slice would need an arm for fewer bytes.
@@ -49,16 +49,16 @@ pub fn slot_of(frame: &[u8]) -> u32
 }
 
 // The first of causes 4 and 5 that a frame meets for this version and these settings, if there is one.
-pub fn header_cause(version: u16, s: Settings, frame: &[u8]) -> Answer
+pub fn header_cause(version: u16, s: Settings, frame: &[u8]) -> Result<(), Cause>
     requires { 14 ≤ length frame.now }
     ensures { result ≡ header_cause version s frame.now }
 {
     let head = header_bytes(version, s, 0);
     if !agrees(frame, head, 0, 5) {
-        return Answer::Refused(Cause::OtherMark);
+        return Err(Cause::OtherMark);
     }
     if !agrees(frame, head, 5, 10) {
-        return Answer::Refused(Cause::OtherSettings);
+        return Err(Cause::OtherSettings);
     }
-    Answer::Accepted
+    Ok(())
 }

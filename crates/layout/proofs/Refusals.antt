@@ -1,12 +1,11 @@
 -- Which numbers are those of a call that was accepted.
+use Rattle.std.specs.Prelude.{Ok, Err}
 use mathlib.Core.Path.{◌≡◌, refl, sym, ap, ◌∙◌}
 use mathlib.Core.Bool.{true, false}
 use Rattle.protocol.specs.declared.Cause.{Cause}
 use Rattle.protocol.specs.declared.Cause.TheVariants.{BadSettings, BadLength, PastLastSlot, OtherMark, OtherSettings, OtherSlot, LateOpening, OutOfReach}
-use Rattle.protocol.specs.declared.Answer.{Answer}
-use Rattle.protocol.specs.declared.Answer.TheVariants as answer
-use Rattle.protocol.specs.declared.Reply.{Reply}
-use Rattle.protocol.specs.declared.Reply.TheVariants as reply
+use Rattle.protocol.specs.Answers.{Answer, Reply}
+use Rattle.protocol.specs.declared.Told.TheVariants.{NoneYet, Whole, Lost, Clash}
 use Rattle.protocol.specs.Causes.{number_of}
 use Rattle.protocol.specs.Claim.{accepts}
 use Rattle.protocol.specs.Numbers.{answer_number, reply_number}
@@ -25,13 +24,13 @@ cause_refused OutOfReach = refl
 
 -- of a report's, those that are no refusal
 pub reply_accepted : (r : Reply) → acceptance (reply_number r) ≡ accepts r
-reply_accepted (reply.Refused c) = cause_refused c
-reply_accepted reply.NoneYet = refl
-reply_accepted reply.Whole = refl
-reply_accepted reply.Lost = refl
-reply_accepted reply.Clash = refl
+reply_accepted (Err c) = cause_refused c
+reply_accepted (Ok NoneYet) = refl
+reply_accepted (Ok Whole) = refl
+reply_accepted (Ok Lost) = refl
+reply_accepted (Ok Clash) = refl
 
 -- and an opening or a send that replies 0 was accepted
-pub answer_accepted : (a : Answer) → answer_number a ≡ answer_number answer.Accepted → a ≡ answer.Accepted
-answer_accepted answer.Accepted e = refl
-answer_accepted (answer.Refused c) e = let z : true ≡ false = ap acceptance (sym e) ∙ cause_refused c in cc
+pub answer_accepted : (a : Answer) → answer_number a ≡ answer_number (Ok tt) → a ≡ Ok tt
+answer_accepted (Ok tt) e = refl
+answer_accepted (Err c) e = let z : true ≡ false = ap acceptance (sym e) ∙ cause_refused c in cc

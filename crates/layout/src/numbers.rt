@@ -1,40 +1,28 @@
-// The number of each answer and reply, and whether an opening or a send was taken.
+// The number of each answer and reply.
 ghost use Rattle.std.specs.Prelude.{◌≡◌};
-ghost use Rattle.protocol.specs.Histories.{is_accepted};
 ghost use Rattle.protocol.specs.Numbers.{answer_number, reply_number};
 
-use ends::number_of;
-use protocol::{Answer, Reply};
+use protocol::{Cause, Told};
 
 // The number of what an opening or a send answers.
-pub(crate) fn answer_number(answer: Answer) -> u32
+pub(crate) fn answer_number(answer: Result<(), Cause>) -> u32
     ensures { result ≡ answer_number answer }
 {
     match answer {
-        Answer::Accepted => 0,
-        Answer::Refused(c) => number_of(c),
+        Ok(()) => 0,
+        Err(c) => u32::from(c),
     }
 }
 
 // The number of what a report or a look-up answers.
-pub fn reply_number(reply: Reply) -> u32
+pub fn reply_number(reply: Result<Told, Cause>) -> u32
     ensures { result ≡ reply_number reply }
 {
     match reply {
-        Reply::Refused(c) => number_of(c),
-        Reply::NoneYet => 16,
-        Reply::Whole => 17,
-        Reply::Lost => 18,
-        Reply::Clash => 19,
-    }
-}
-
-// Whether an opening or a send was accepted.
-pub(crate) fn answer_taken(answer: Answer) -> bool
-    ensures { result ≡ is_accepted answer }
-{
-    match answer {
-        Answer::Accepted => true,
-        Answer::Refused(c) => false,
+        Err(c) => u32::from(c),
+        Ok(Told::NoneYet) => 16,
+        Ok(Told::Whole) => 17,
+        Ok(Told::Lost) => 18,
+        Ok(Told::Clash) => 19,
     }
 }

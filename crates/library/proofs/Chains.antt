@@ -1,4 +1,5 @@
 -- What a call reads is what the call before it wrote, so a list of the library's calls is protocol's, call by call.
+use Rattle.std.specs.Prelude.{Ok, Err}
 use mathlib.Core.Path.{◌≡◌, refl, sym, ap, ◌∙◌, subst, subst⁻¹}
 use mathlib.Core.Bool.{Bool, true, cond}
 use mathlib.Core.List.{List, [], ◌∷◌, map, Forall₂}
@@ -13,8 +14,7 @@ use Rattle.code.specs.Settings.{accepted}
 use Rattle.protocol.specs.declared.Sender.{Sender}
 use Rattle.protocol.specs.declared.Receiver.{Receiver}
 use Rattle.protocol.specs.declared.Cause.{Cause}
-use Rattle.protocol.specs.declared.Answer.{Answer}
-use Rattle.protocol.specs.declared.Answer.TheVariants as answer
+use Rattle.protocol.specs.Answers.{Answer}
 use Rattle.protocol.specs.Causes.{loss_cause, frame_cause}
 use Rattle.protocol.specs.Lengths.{last_slot, sender_len}
 use Rattle.protocol.specs.States.{opened_sender, sent_on, opened_receiver, reported_on}
@@ -46,7 +46,7 @@ use Rattle.library.proofs.Outcomes.{send_left, send_uncaused, report_left, heard
 
 -- the bytes are a state of this end, and keep x
 pub record Keeps {X : Type 0} (end : ℕ) (read : List ℕ → X) (state : List ℕ) (x : X) : Type 0 where
-  pub uncaused : state_cause end state ≡ answer.Accepted
+  pub uncaused : state_cause end state ≡ Ok tt
   pub reads : read state ≡ x
 
 -- ---- the sender
@@ -76,7 +76,7 @@ pub record SendStep (state rows message frame : List ℕ) (x : Sender) : Type 0 
   pub next : KeepsSender (send_bytes state rows message frame).state (send_of x rows message frame).sender
   pub due : (send_of x rows message frame).sender.due ≡ due_after x.due (send_bytes state rows message frame).reply
 
-module _ (state rows message frame : List ℕ) (none : state_cause sender_end state ≡ answer.Accepted) where
+module _ (state rows message frame : List ℕ) (none : state_cause sender_end state ≡ Ok tt) where
   abbrev x : Sender
   x = sender_in state
 
@@ -163,7 +163,7 @@ pub record ReportStep (state rows : List ℕ) (call : Report) (y : Receiver) : T
   pub next : KeepsReceiver (report_bytes state rows call).state (report_of y rows call).receiver
   pub due : (report_of y rows call).receiver.due ≡ due_after y.due (report_bytes state rows call).reply
 
-module _ (state rows : List ℕ) (none : state_cause receiver_end state ≡ answer.Accepted) (begun : (receiver_in state).opening ≤ last_slot) where
+module _ (state rows : List ℕ) (none : state_cause receiver_end state ≡ Ok tt) (begun : (receiver_in state).opening ≤ last_slot) where
   abbrev y : Receiver
   y = receiver_in state
 
@@ -193,15 +193,15 @@ module _ (state rows : List ℕ) (none : state_cause receiver_end state ≡ answ
 
   -- by the cause that is found
   heard_next : (frame message : List ℕ) (found : Answer) → frame_cause y rows frame message ≡ found → After (heard_of y rows frame message)
-  heard_next frame message answer.Accepted e =
+  heard_next frame message (Ok tt) e =
       subst⁻¹ After (steps.heard_moves y rows frame message e)
       (moved_next (1 ∷ drop 14 frame) (frame_open y rows message 1 frame e).in_time_lem)
-  heard_next frame message (answer.Refused c) e = subst⁻¹ After (steps.heard_stays y rows frame message c e) (stayed_next c message)
+  heard_next frame message (Err c) e = subst⁻¹ After (steps.heard_stays y rows frame message c e) (stayed_next c message)
 
   lost_next : (message : List ℕ) (found : Answer) → loss_cause y rows message ≡ found → After (loss_of y rows message)
-  lost_next message answer.Accepted e =
+  lost_next message (Ok tt) e =
       subst⁻¹ After (steps.loss_moves y rows message e) (moved_next _ (loss_open y rows message e).in_time_lem)
-  lost_next message (answer.Refused c) e = subst⁻¹ After (steps.loss_stays y rows message c e) (stayed_next c message)
+  lost_next message (Err c) e = subst⁻¹ After (steps.loss_stays y rows message c e) (stayed_next c message)
 
   report_next : (call : Report) → After (report_of y rows call)
   unfolding report_of

@@ -1,11 +1,12 @@
 -- What look-ups tell early, of the static library: early's `early_known`, carried over to what the library's callers see.
+use Rattle.std.specs.Prelude.{Ok}
 use mathlib.Core.Path.{◌≡◌, refl, sym, ap, ap₂, ◌∙◌, subst, subst⁻¹}
 use mathlib.Core.List.{List, Memᴰ, Forall₂}
 use Prim.Native.Nat.{ℕ, ◌≤◌}
 use native.Mathlib.Nat.{le_refl, le_of_eq}
 use lib.Dec.{T}
 use Rattle.code.specs.declared.settings.Settings.{Settings}
-use Rattle.protocol.specs.declared.Reply.TheVariants as reply
+use Rattle.protocol.specs.declared.Told.TheVariants.{Whole, Clash}
 use Rattle.protocol.specs.Numbers.{reply_number}
 use Rattle.protocol.specs.TwoLists.{SendMade, ReportMade}
 use Rattle.protocol.specs.Histories.{Heard}
@@ -80,10 +81,10 @@ module _ (s : Settings) (opening : ℕ) {sends₁ : List SendMade} {sends₂ : L
     for_it = subst (λ (P : Type 0). P) (ap₂ (IsFor s t) same.due same.call) x.for_it;
   }
 
-  whole_made : {m : CallMade} {b : CallDone} → SameCall m b → SaysWhole b → m.after.reply ≡ reply.Whole
-  whole_made {m} same e = reply_tells m.after.reply reply.Whole (sym same.reply ∙ e)
+  whole_made : {m : CallMade} {b : CallDone} → SameCall m b → SaysWhole b → m.after.reply ≡ Ok Whole
+  whole_made {m} same e = reply_tells m.after.reply (Ok Whole) (sym same.reply ∙ e)
 
-  whole_bytes : {m : CallMade} {b : CallDone} → SameCall m b → m.after.reply ≡ reply.Whole → SaysWhole b
+  whole_bytes : {m : CallMade} {b : CallDone} → SameCall m b → m.after.reply ≡ Ok Whole → SaysWhole b
   whole_bytes same e = same.reply ∙ ap reply_number e
 
   early : Early s opening sends₁ made → EarlyBytes s opening sends₂ done
@@ -117,7 +118,7 @@ module _ (s : Settings) (opening : ℕ) {sends₁ : List SendMade} {sends₂ : L
         (message, frame, sent_bytes_lem sent was, same.message ∙ out);
     no_clash = λ t a ta e.
         let (m, listed, same) = partner.first alike.each ta.listed in
-        h.no_clash t m (telling_made t m a listed same ta) (reply_tells m.after.reply reply.Clash (sym same.reply ∙ e));
+        h.no_clash t m (telling_made t m a listed same ta) (reply_tells m.after.reply (Ok Clash) (sym same.reply ∙ e));
   }
 
 -- what look-ups tell early, of the library's calls

@@ -1,5 +1,6 @@
 -- A pair that is fed through the static library: feeding's `pair_fed` and `pair-faithful-demand3`, carried over to what the library's
 -- callers see.
+use Rattle.std.specs.Prelude.{Ok, Err}
 use mathlib.Core.Path.{◌≡◌, refl, sym, ap, ap₂, ◌∙◌, subst, subst⁻¹}
 use mathlib.Core.Logic.{inl, inr, ⊎_elim}
 use mathlib.Core.List.{List, [], ◌∷◌, Forall₂}
@@ -9,10 +10,8 @@ use lib.ListN.{length}
 use Rattle.code.specs.declared.settings.Settings.{Settings}
 use Rattle.protocol.specs.declared.Receiver.{Receiver}
 use Rattle.protocol.specs.declared.Cause.{Cause}
-use Rattle.protocol.specs.declared.Answer.{Answer}
-use Rattle.protocol.specs.declared.Answer.TheVariants as answer
-use Rattle.protocol.specs.declared.Reply.{Reply}
-use Rattle.protocol.specs.declared.Reply.TheVariants as reply
+use Rattle.protocol.specs.Answers.{Answer, Reply}
+use Rattle.protocol.specs.declared.Told.TheVariants.{NoneYet, Whole, Lost, Clash}
 use Rattle.protocol.specs.Lengths.{last_slot, message_len, sender_len}
 use Rattle.protocol.specs.Causes.{number_of, Row, first_of, open_cause, open_receiver_cause}
 use Rattle.protocol.specs.Numbers.{reply_number}
@@ -61,12 +60,12 @@ fed_read s first second (message ∷ messages) state rows y k =
 
 -- a call that replied 0 found no cause
 uncaused : {Stays : Type 0} (table : List Row) (number : ℕ) → RefusesBytes table number Stays → number ≡ 0
-    → first_of table ≡ answer.Accepted
+    → first_of table ≡ Ok tt
 uncaused table number h zero = by (first_of table) refl
   where
-    by : (a : Answer) → first_of table ≡ a → a ≡ answer.Accepted
-    by answer.Accepted e = refl
-    by (answer.Refused c) e = absurd (accepted_number c (sym zero ∙ (h.first c).1 (found_first c table e)))
+    by : (a : Answer) → first_of table ≡ a → a ≡ Ok tt
+    by (Ok tt) e = refl
+    by (Err c) e = absurd (accepted_number c (sym zero ∙ (h.first c).1 (found_first c table e)))
 
 module _ (settings state rows : List ℕ) where
   abbrev s : Settings
@@ -110,12 +109,12 @@ module _ (settings state rows : List ℕ) where
 -- ---- from protocol's reports to the library's
 
 -- a reply that is a refusal's number is a refusal
-refused_number : (r : Reply) → T (refusal (reply_number r)) → (c : Cause) × (r ≡ reply.Refused c)
-refused_number (reply.Refused c) t = (c, refl)
-refused_number reply.NoneYet t = absurd t
-refused_number reply.Whole t = absurd t
-refused_number reply.Lost t = absurd t
-refused_number reply.Clash t = absurd t
+refused_number : (r : Reply) → T (refusal (reply_number r)) → (c : Cause) × (r ≡ Err c)
+refused_number (Err c) t = (c, refl)
+refused_number (Ok NoneYet) t = absurd t
+refused_number (Ok Whole) t = absurd t
+refused_number (Ok Lost) t = absurd t
+refused_number (Ok Clash) t = absurd t
 
 module _ (s : Settings) (first second : List ℕ) {reports₁ : List ReportMade} {reports₂ : List ReportDone}
     (told : Forall₂ SameReport reports₁ reports₂) where

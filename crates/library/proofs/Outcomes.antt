@@ -1,4 +1,5 @@
 -- What each way out of a call gives back: where the state gives a cause, that refusal; else what protocol's call leaves.
+use Rattle.std.specs.Prelude.{Ok, Err}
 use mathlib.Core.Path.{◌≡◌, refl, sym, ap, ◌∙◌}
 use mathlib.Core.Bool.{Bool, true, false, cond, not, ◌&&◌}
 use mathlib.Core.List.{List, [], ◌∷◌}
@@ -12,8 +13,7 @@ use Rattle.code.specs.Settings.{accepted}
 use Rattle.protocol.specs.declared.Cause.{Cause}
 use Rattle.protocol.specs.declared.Cause.TheVariants.{BadSettings, BadLength, LateOpening}
 use Rattle.protocol.specs.Lengths.{last_slot, sender_len, receiver_len}
-use Rattle.protocol.specs.declared.Answer.{Answer}
-use Rattle.protocol.specs.declared.Answer.TheVariants as answer
+use Rattle.protocol.specs.Answers.{Answer}
 use Rattle.protocol.specs.Causes.{number_of, row, first_of, open_table, send_table, loss_table, frame_table, look_up_table}
 use Rattle.protocol.specs.Causes.{open_cause, open_receiver_cause, send_cause, loss_cause, frame_cause, frame_cause_of, look_up_cause}
 use Rattle.protocol.specs.Calls.{OpenedSender, OpenedReceiver, Sent, Reported, open_sender_of, send_of, open_receiver_of, moved_on, heard_of, loss_of}
@@ -56,8 +56,8 @@ open_cause_lem s size state rows = go (accepted s) (eqb (length state) state_len
 
 -- two answers after a first one
 in_turn : (a b c : Answer) → followed_by (followed_by a b) c ≡ followed_by a (followed_by b c)
-in_turn answer.Accepted b c = refl
-in_turn (answer.Refused e) b c = refl
+in_turn (Ok tt) b c = refl
+in_turn (Err e) b c = refl
 
 pub open_receiver_cause_lem : (s : Settings) (slot : ℕ) (state rows : List ℕ)
     → open_receiver_bytes_cause s slot state rows ≡ followed_by (open_cause s state_len state) (open_receiver_cause s slot rows)
@@ -113,33 +113,33 @@ module _ (settings state rows : List ℕ) where
   abbrev s : Settings
   s = settings_at 0 settings
 
-  pub sender_caused : (c : Cause) → open_cause s state_len state ≡ answer.Refused c
+  pub sender_caused : (c : Cause) → open_cause s state_len state ≡ Err c
       → record { reply = number_of c; state = state; rows = rows } ≡ open_sender_bytes settings state rows
   unfolding settings_of open_sender_bytes
   sender_caused c e = rw (open_cause_lem s (sender_len s) state rows, e, open_sender_bytes)
 
-  pub sender_uncaused : open_cause s state_len state ≡ answer.Accepted → sender_left state (open_sender_of s rows) ≡ open_sender_bytes settings state rows
+  pub sender_uncaused : open_cause s state_len state ≡ Ok tt → sender_left state (open_sender_of s rows) ≡ open_sender_bytes settings state rows
   unfolding settings_of open_sender_of open_sender_bytes
   sender_uncaused none = go (open_cause s (sender_len s) rows) refl
     where
       go : (f : Answer) → open_cause s (sender_len s) rows ≡ f → sender_left state (open_sender_of s rows) ≡ open_sender_bytes settings state rows
-      go answer.Accepted e = rw (open_cause_lem s (sender_len s) state rows, none, e, open_sender_bytes, open_sender_of, e, open_sender_of)
-      go (answer.Refused c) e = rw (open_cause_lem s (sender_len s) state rows, none, e, open_sender_bytes, open_sender_of)
+      go (Ok tt) e = rw (open_cause_lem s (sender_len s) state rows, none, e, open_sender_bytes, open_sender_of, e, open_sender_of)
+      go (Err c) e = rw (open_cause_lem s (sender_len s) state rows, none, e, open_sender_bytes, open_sender_of)
 
-  pub receiver_caused : (slot : ℕ) (c : Cause) → open_cause s state_len state ≡ answer.Refused c
+  pub receiver_caused : (slot : ℕ) (c : Cause) → open_cause s state_len state ≡ Err c
       → record { reply = number_of c; state = state; rows = rows } ≡ open_receiver_bytes settings slot state rows
   unfolding settings_of open_receiver_bytes
   receiver_caused slot c e = rw (open_receiver_cause_lem s slot state rows, e, open_receiver_bytes)
 
-  pub receiver_uncaused : (slot : ℕ) → open_cause s state_len state ≡ answer.Accepted
+  pub receiver_uncaused : (slot : ℕ) → open_cause s state_len state ≡ Ok tt
       → receiver_left state (open_receiver_of s slot rows) ≡ open_receiver_bytes settings slot state rows
   unfolding settings_of open_receiver_of open_receiver_bytes
   receiver_uncaused slot none = go (open_receiver_cause s slot rows) refl
     where
       go : (f : Answer) → open_receiver_cause s slot rows ≡ f
           → receiver_left state (open_receiver_of s slot rows) ≡ open_receiver_bytes settings slot state rows
-      go answer.Accepted e = rw (open_receiver_cause_lem s slot state rows, none, e, open_receiver_bytes, open_receiver_of, e, open_receiver_of)
-      go (answer.Refused c) e = rw (open_receiver_cause_lem s slot state rows, none, e, open_receiver_bytes, open_receiver_of)
+      go (Ok tt) e = rw (open_receiver_cause_lem s slot state rows, none, e, open_receiver_bytes, open_receiver_of, e, open_receiver_of)
+      go (Err c) e = rw (open_receiver_cause_lem s slot state rows, none, e, open_receiver_bytes, open_receiver_of)
 
 -- ---- a send
 
@@ -153,20 +153,20 @@ send_left state r = record {
 }
 
 module _ (state rows message frame : List ℕ) where
-  pub send_caused : (c : Cause) → state_cause sender_end state ≡ answer.Refused c
+  pub send_caused : (c : Cause) → state_cause sender_end state ≡ Err c
       → record { reply = number_of c; state = state; rows = rows; frame = frame } ≡ send_bytes state rows message frame
   unfolding send_bytes
   send_caused c e = rw (send_cause_lem state rows message frame, e, send_bytes)
 
-  pub send_uncaused : state_cause sender_end state ≡ answer.Accepted
+  pub send_uncaused : state_cause sender_end state ≡ Ok tt
       → send_left state (send_of (sender_in state) rows message frame) ≡ send_bytes state rows message frame
   unfolding send_of send_bytes
   send_uncaused none = go (send_cause (sender_in state) rows message frame) refl
     where
       go : (f : Answer) → send_cause (sender_in state) rows message frame ≡ f
           → send_left state (send_of (sender_in state) rows message frame) ≡ send_bytes state rows message frame
-      go answer.Accepted e = rw (send_cause_lem state rows message frame, none, e, send_bytes, send_of, e, send_of)
-      go (answer.Refused c) e = rw (send_cause_lem state rows message frame, none, e, send_bytes, send_of)
+      go (Ok tt) e = rw (send_cause_lem state rows message frame, none, e, send_bytes, send_of, e, send_of)
+      go (Err c) e = rw (send_cause_lem state rows message frame, none, e, send_bytes, send_of)
 
 -- ---- reports
 
@@ -190,47 +190,47 @@ module _ (state rows message : List ℕ) where
   unreported c = record { reply = number_of c; state = state; rows = rows; message = message }
 
   module _ (frame : List ℕ) where
-    pub heard_caused : (c : Cause) → state_cause receiver_end state ≡ answer.Refused c → unreported c ≡ heard_bytes state rows frame message
+    pub heard_caused : (c : Cause) → state_cause receiver_end state ≡ Err c → unreported c ≡ heard_bytes state rows frame message
     unfolding heard_bytes
     heard_caused c e = rw (heard_cause state rows message frame, e, heard_bytes)
 
-    pub heard_uncaused : state_cause receiver_end state ≡ answer.Accepted
+    pub heard_uncaused : state_cause receiver_end state ≡ Ok tt
         → report_left state (heard_of (receiver_in state) rows frame message) ≡ heard_bytes state rows frame message
     unfolding heard_of heard_bytes
     heard_uncaused none = go (frame_cause (receiver_in state) rows frame message) refl
       where
         go : (f : Answer) → frame_cause (receiver_in state) rows frame message ≡ f
             → report_left state (heard_of (receiver_in state) rows frame message) ≡ heard_bytes state rows frame message
-        go answer.Accepted e =
+        go (Ok tt) e =
             rw (heard_cause state rows message frame, none, e, heard_bytes, heard_of, e, heard_of) (moved_left (1 ∷ drop 14 frame))
-        go (answer.Refused c) e = rw (heard_cause state rows message frame, none, e, heard_bytes, heard_of)
+        go (Err c) e = rw (heard_cause state rows message frame, none, e, heard_bytes, heard_of)
 
-  pub lost_caused : (c : Cause) → state_cause receiver_end state ≡ answer.Refused c → unreported c ≡ lost_bytes state rows message
+  pub lost_caused : (c : Cause) → state_cause receiver_end state ≡ Err c → unreported c ≡ lost_bytes state rows message
   unfolding lost_bytes
   lost_caused c e = rw (lost_cause state rows message, e, lost_bytes)
 
-  pub lost_uncaused : state_cause receiver_end state ≡ answer.Accepted
+  pub lost_uncaused : state_cause receiver_end state ≡ Ok tt
       → report_left state (loss_of (receiver_in state) rows message) ≡ lost_bytes state rows message
   unfolding loss_of lost_bytes
   lost_uncaused none = go (loss_cause (receiver_in state) rows message) refl
     where
       go : (f : Answer) → loss_cause (receiver_in state) rows message ≡ f
           → report_left state (loss_of (receiver_in state) rows message) ≡ lost_bytes state rows message
-      go answer.Accepted e = rw (lost_cause state rows message, none, e, lost_bytes, loss_of, e, loss_of) (moved_left _)
-      go (answer.Refused c) e = rw (lost_cause state rows message, none, e, lost_bytes, loss_of)
+      go (Ok tt) e = rw (lost_cause state rows message, none, e, lost_bytes, loss_of, e, loss_of) (moved_left _)
+      go (Err c) e = rw (lost_cause state rows message, none, e, lost_bytes, loss_of)
 
   module _ (number : ℤ) where
-    pub look_up_caused : (c : Cause) → state_cause receiver_end state ≡ answer.Refused c
+    pub look_up_caused : (c : Cause) → state_cause receiver_end state ≡ Err c
         → record { reply = number_of c; message = message } ≡ look_up_bytes state rows number message
     unfolding look_up_bytes
     look_up_caused c e = rw (look_up_cause_lem state rows message number, e, look_up_bytes)
 
-    pub look_up_uncaused : state_cause receiver_end state ≡ answer.Accepted
+    pub look_up_uncaused : state_cause receiver_end state ≡ Ok tt
         → looked_bytes (look_up_of (receiver_in state) rows number message) ≡ look_up_bytes state rows number message
     unfolding look_up_of look_up_bytes
     look_up_uncaused none = go (look_up_cause (receiver_in state) rows number message) refl
       where
         go : (f : Answer) → look_up_cause (receiver_in state) rows number message ≡ f
             → looked_bytes (look_up_of (receiver_in state) rows number message) ≡ look_up_bytes state rows number message
-        go answer.Accepted e = rw (look_up_cause_lem state rows message number, none, e, look_up_bytes)
-        go (answer.Refused c) e = rw (look_up_cause_lem state rows message number, none, e, look_up_bytes, look_up_of)
+        go (Ok tt) e = rw (look_up_cause_lem state rows message number, none, e, look_up_bytes)
+        go (Err c) e = rw (look_up_cause_lem state rows message number, none, e, look_up_bytes, look_up_of)

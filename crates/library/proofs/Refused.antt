@@ -1,13 +1,13 @@
 -- Demand 1 of the static library: a call replies with a cause's number exactly if that cause is the first of its table that holds, and
 -- then it changes no lent byte. Also the order in which the tables stand, and the check of a pair.
+use Rattle.std.specs.Prelude.{Ok, Err}
 use mathlib.Core.Path.{◌≡◌, refl, sym, ap, ◌∙◌}
 use mathlib.Core.List.{List}
 use Prim.Native.Nat.{ℕ}
 use lib.IntN.{ℤ}
 use Rattle.code.specs.declared.settings.Settings.{Settings}
 use Rattle.protocol.specs.declared.Cause.{Cause}
-use Rattle.protocol.specs.declared.Answer.{Answer}
-use Rattle.protocol.specs.declared.Answer.TheVariants as answer
+use Rattle.protocol.specs.Answers.{Answer}
 use Rattle.protocol.specs.Lengths.{sender_len}
 use Rattle.protocol.specs.Causes.{number_of, Row, first_of, open_cause, open_receiver_cause, send_cause, loss_cause, frame_cause, look_up_cause}
 use Rattle.protocol.specs.Calls.{open_sender_of, open_receiver_of, send_of, heard_of, loss_of, look_up_of}
@@ -38,18 +38,18 @@ module _ (settings state rows : List ℕ) where
 
   sender_opens : (a : Answer) → open_bytes_cause s (sender_len s) state rows ≡ a → Opens state rows (open_sender_bytes settings state rows) a
   unfolding open_sender_bytes open_sender_of
-  sender_opens answer.Accepted e =
+  sender_opens (Ok tt) e =
       let none = (both_clear (open_cause s state_len state) (open_cause s (sender_len s) rows) (sym (open_cause_lem s (sender_len s) state rows) ∙ e)).1 in
       rw (e, open_sender_bytes, none, open_sender_of) accepted_number
-  sender_opens (answer.Refused c) e = rw (e, open_sender_bytes)
+  sender_opens (Err c) e = rw (e, open_sender_bytes)
 
   receiver_opens : (slot : ℕ) (a : Answer) → open_receiver_bytes_cause s slot state rows ≡ a
       → Opens state rows (open_receiver_bytes settings slot state rows) a
   unfolding open_receiver_bytes open_receiver_of
-  receiver_opens slot answer.Accepted e =
+  receiver_opens slot (Ok tt) e =
       let none = (both_clear (open_cause s state_len state) (open_receiver_cause s slot rows) (sym (open_receiver_cause_lem s slot state rows) ∙ e)).1 in
       rw (e, open_receiver_bytes, none, open_receiver_of) accepted_number
-  receiver_opens slot (answer.Refused c) e = rw (e, open_receiver_bytes)
+  receiver_opens slot (Err c) e = rw (e, open_receiver_bytes)
 
 opening_stays : {state rows : List ℕ} {r : Opening} (c : Cause) → r ≡ unopened state rows c → (r.state ≡ state) × (r.rows ≡ rows)
 opening_stays c e = (ap (λ (r : Opening). r.state) e, ap (λ (r : Opening). r.rows) e)
@@ -62,10 +62,10 @@ unsent state rows frame c = record { reply = number_of c; state = state; rows = 
 sends : (state rows message frame : List ℕ) (a : Answer) → send_bytes_cause state rows message frame ≡ a
     → Comes (λ (r : Sending). r.reply) (unsent state rows frame) (send_bytes state rows message frame) a
 unfolding send_bytes send_of
-sends state rows message frame answer.Accepted e =
+sends state rows message frame (Ok tt) e =
     let none = (both_clear (state_cause sender_end state) (send_cause (sender_in state) rows message frame) (sym (send_cause_lem state rows message frame) ∙ e)).1 in
     rw (e, send_bytes, none, send_of) accepted_number
-sends state rows message frame (answer.Refused c) e = rw (e, send_bytes)
+sends state rows message frame (Err c) e = rw (e, send_bytes)
 
 send_stays : {state rows frame : List ℕ} {r : Sending} (c : Cause) → r ≡ unsent state rows frame c
     → (r.state ≡ state) × (r.rows ≡ rows) × (r.frame ≡ frame)
@@ -82,18 +82,18 @@ Reports state rows message = Comes (λ (r : Reporting). r.reply) (unreported sta
 hears : (state rows frame message : List ℕ) (a : Answer) → heard_bytes_cause state rows frame message ≡ a
     → Reports state rows message (heard_bytes state rows frame message) a
 unfolding heard_bytes heard_of
-hears state rows frame message answer.Accepted e =
+hears state rows frame message (Ok tt) e =
     let none = (both_clear (state_cause receiver_end state) (frame_cause (receiver_in state) rows frame message) (sym (heard_cause state rows message frame) ∙ e)).1 in
     rw (e, heard_bytes, none, heard_of) (moved_number (receiver_in state) _ rows)
-hears state rows frame message (answer.Refused c) e = rw (e, heard_bytes)
+hears state rows frame message (Err c) e = rw (e, heard_bytes)
 
 loses : (state rows message : List ℕ) (a : Answer) → lost_bytes_cause state rows message ≡ a
     → Reports state rows message (lost_bytes state rows message) a
 unfolding lost_bytes loss_of
-loses state rows message answer.Accepted e =
+loses state rows message (Ok tt) e =
     let none = (both_clear (state_cause receiver_end state) (loss_cause (receiver_in state) rows message) (sym (lost_cause state rows message) ∙ e)).1 in
     rw (e, lost_bytes, none, loss_of) (moved_number (receiver_in state) _ rows)
-loses state rows message (answer.Refused c) e = rw (e, lost_bytes)
+loses state rows message (Err c) e = rw (e, lost_bytes)
 
 report_stays : {state rows message : List ℕ} {r : Reporting} (c : Cause) → r ≡ unreported state rows message c
     → (r.state ≡ state) × (r.rows ≡ rows) × (r.message ≡ message)
@@ -107,11 +107,11 @@ unlooked message c = record { reply = number_of c; message = message }
 looks : (state rows : List ℕ) (number : ℤ) (message : List ℕ) (a : Answer) → look_up_bytes_cause state rows number message ≡ a
     → Comes (λ (r : Looking). r.reply) (unlooked message) (look_up_bytes state rows number message) a
 unfolding look_up_bytes look_up_of
-looks state rows number message answer.Accepted e =
+looks state rows number message (Ok tt) e =
     let x = receiver_in state in
     let none = (both_clear (state_cause receiver_end state) (look_up_cause x rows number message) (sym (look_up_cause_lem state rows message number) ∙ e)).1 in
     rw (e, look_up_bytes, none, look_up_of) (told_number x.settings rows _ _)
-looks state rows number message (answer.Refused c) e = rw (e, look_up_bytes)
+looks state rows number message (Err c) e = rw (e, look_up_bytes)
 
 -- ---- slots that are read
 
@@ -119,8 +119,8 @@ abbrev unread : ℕ → Cause → Reading
 unread slot c = record { reply = number_of c; slot = slot }
 
 reads : (a : Answer) (found slot : ℕ) → Comes (λ (r : Reading). r.reply) (unread slot) (read_by a found slot) a
-reads answer.Accepted found slot = accepted_number
-reads (answer.Refused c) found slot = refl
+reads (Ok tt) found slot = accepted_number
+reads (Err c) found slot = refl
 
 -- ---- demand 1
 

@@ -1,4 +1,5 @@
 -- What the calls that read a slot tell, of the states that calls leave and of a frame that was refused for its slot.
+use Rattle.std.specs.Prelude.{Ok, Err}
 use mathlib.Core.Path.{◌≡◌, refl, sym, ap, ◌∙◌, subst, subst⁻¹}
 use mathlib.Core.Bool.{Bool, true, false, not, ◌&&◌, ◌||◌}
 use mathlib.Core.List.{List, [], ◌∷◌, ◌++◌}
@@ -15,8 +16,7 @@ use Rattle.protocol.specs.declared.Cause.{Cause}
 use Rattle.protocol.specs.declared.Cause.TheVariants.{BadSettings, BadLength, OtherMark, OtherSlot}
 use Rattle.protocol.specs.declared.Sender.{Sender}
 use Rattle.protocol.specs.declared.Receiver.{Receiver}
-use Rattle.protocol.specs.declared.Answer.{Answer}
-use Rattle.protocol.specs.declared.Answer.TheVariants as answer
+use Rattle.protocol.specs.Answers.{Answer}
 use Rattle.protocol.specs.Lengths.{last_slot, sender_len, receiver_len, frame_len, exactly_framed}
 use Rattle.protocol.specs.Frame.{mark, slot_bytes}
 use Rattle.protocol.specs.States.{opened_sender, sent_on, opened_receiver, reported_on}
@@ -53,20 +53,20 @@ use Rattle.library.proofs.Outcomes.{report_left, heard_caused, heard_uncaused, l
 
 module _ (state : List ℕ) (settled : T (accepted (settings_at 4 state))) where
   -- it begins with its end's mark
-  marked : (end : ℕ) → state_cause end state ≡ answer.Accepted → agree 4 state (mark_of end) ≡ true
+  marked : (end : ℕ) → state_cause end state ≡ Ok tt → agree 4 state (mark_of end) ≡ true
   unfolding state_cause
   marked end none = not-false (agree 4 state (mark_of end)) (none_holds (state_table end state) none BadSettings)
 
-  uncaused : (end : ℕ) → state_cause end state ≡ answer.Accepted → either_mark state ≡ true → due_read_cause state ≡ answer.Accepted
+  uncaused : (end : ℕ) → state_cause end state ≡ Ok tt → either_mark state ≡ true → due_read_cause state ≡ Ok tt
   unfolding due_read_cause
   uncaused end none either =
       rw (eq-eqb (length state) state_len (uncaused_length end state none), either, is_true (accepted (settings_at 4 state)) settled)
 
-  sender_tells : state_cause sender_end state ≡ answer.Accepted → (was : ℕ) → Tells (slot_due_bytes state was) (slot_at 9 state)
+  sender_tells : state_cause sender_end state ≡ Ok tt → (was : ℕ) → Tells (slot_due_bytes state was) (slot_at 9 state)
   unfolding slot_due_bytes either_mark
   sender_tells none was = rw (uncaused sender_end none (rw (marked sender_end none) refl)) refl
 
-  receiver_tells : state_cause receiver_end state ≡ answer.Accepted → (was : ℕ) → Tells (slot_due_bytes state was) (slot_at 9 state)
+  receiver_tells : state_cause receiver_end state ≡ Ok tt → (was : ℕ) → Tells (slot_due_bytes state was) (slot_at 9 state)
   unfolding slot_due_bytes either_mark
   receiver_tells none was = rw (uncaused receiver_end none (either (agree 4 state (mark_of sender_end)) (marked receiver_end none))) refl
     where
@@ -110,23 +110,23 @@ module _ (settings state rows : List ℕ) (was : ℕ) where
   sender_opened : (a : Answer) → open_bytes_cause s (sender_len s) state rows ≡ a → (open_sender_bytes settings state rows).reply ≡ 0
       → Tells (slot_due_bytes (open_sender_bytes settings state rows).state was) 0
   unfolding open_sender_bytes open_sender_of open_cause
-  sender_opened answer.Accepted e replied =
+  sender_opened (Ok tt) e replied =
       let none = (both_clear (open_cause s state_len state) (open_cause s (sender_len s) rows) (sym (open_cause_lem s (sender_len s) state rows) ∙ e)).1 in
       let settled = passes (accepted s) (none_holds (open_table s (sender_len s) rows) none BadSettings) in
       rw (e, open_sender_bytes, none, open_sender_of) (sender_written (opened_sender s) settled (omega arith) was)
-  sender_opened (answer.Refused c) e replied =
+  sender_opened (Err c) e replied =
       absurd (not-accepted c (sym replied ∙ rw (e, open_sender_bytes) refl) tt)
 
   receiver_opened : (slot : ℕ) (a : Answer) → open_receiver_bytes_cause s slot state rows ≡ a
       → (open_receiver_bytes settings slot state rows).reply ≡ 0
       → Tells (slot_due_bytes (open_receiver_bytes settings slot state rows).state was) slot
   unfolding open_receiver_bytes open_receiver_of
-  receiver_opened slot answer.Accepted e replied =
+  receiver_opened slot (Ok tt) e replied =
       let none = (both_clear (open_cause s state_len state) (open_receiver_cause s slot rows) (sym (open_receiver_cause_lem s slot state rows) ∙ e)).1 in
       let opens = receiver_open s slot rows none in
       rw (e, open_receiver_bytes, none, open_receiver_of)
       (receiver_written (opened_receiver s slot) opens.settings (omega (arith, opens.in_time_lem)) was)
-  receiver_opened slot (answer.Refused c) e replied =
+  receiver_opened slot (Err c) e replied =
       absurd (not-accepted c (sym replied ∙ rw (e, open_receiver_bytes) refl) tt)
 
 -- ---- a send
@@ -138,7 +138,7 @@ module _ (state rows message frame : List ℕ) (was : ℕ) (passed : T (acceptan
   abbrev Moved : Type 0
   Moved = Tells (slot_due_bytes (send_bytes state rows message frame).state was) ((slot_due_bytes state was).slot + 1)
 
-  by_case : state_cause sender_end state ≡ answer.Accepted → SendCase x rows message frame → Moved
+  by_case : state_cause sender_end state ≡ Ok tt → SendCase x rows message frame → Moved
   unfolding sender_in
   by_case none (sending.taken h e) =
       let left : send_bytes state rows message frame ≡ send_left state (taken_send x rows message)
@@ -150,8 +150,8 @@ module _ (state rows message frame : List ℕ) (was : ℕ) (passed : T (acceptan
       (ap (λ (r : Sending). r.reply) (sym (send_uncaused state rows message frame none) ∙ ap (send_left state) e)) passed)
 
   sent_by_lem : (a : Answer) → state_cause sender_end state ≡ a → Moved
-  sent_by_lem answer.Accepted none = by_case none (sending.send_case x rows message frame)
-  sent_by_lem (answer.Refused c) e =
+  sent_by_lem (Ok tt) none = by_case none (sending.send_case x rows message frame)
+  sent_by_lem (Err c) e =
       absurd (not-accepted c (ap (λ (r : Sending). r.reply) (sym (send_caused state rows message frame c e))) passed)
 
 -- ---- reports
@@ -163,7 +163,7 @@ module _ (state rows message : List ℕ) (was : ℕ) where
   abbrev On : Reporting → Type 0
   On r = Tells (slot_due_bytes r.state was) ((slot_due_bytes state was).slot + 1)
 
-  moved : state_cause receiver_end state ≡ answer.Accepted → T (accepted y.settings) → y.due ≤ last_slot → (row : List ℕ)
+  moved : state_cause receiver_end state ≡ Ok tt → T (accepted y.settings) → y.due ≤ last_slot → (row : List ℕ)
       → On (report_left state (moved_on y row rows))
   unfolding receiver_in moved_on
   moved none ok few row =
@@ -177,20 +177,20 @@ module _ (state rows message : List ℕ) (was : ℕ) where
   -- by what the state gives, and then by what the report finds
   lost_by : (a b : Answer) → state_cause receiver_end state ≡ a → loss_cause y rows message ≡ b
       → T (acceptance (lost_bytes state rows message).reply) → On (lost_bytes state rows message)
-  lost_by (answer.Refused c) b none e t = refused c (sym (lost_caused state rows message c none)) t
-  lost_by answer.Accepted (answer.Refused c) none e t =
+  lost_by (Err c) b none e t = refused c (sym (lost_caused state rows message c none)) t
+  lost_by (Ok tt) (Err c) none e t =
       refused c (sym (lost_uncaused state rows message none) ∙ ap (report_left state) (steps.loss_stays y rows message c e)) t
-  lost_by answer.Accepted answer.Accepted none e t =
+  lost_by (Ok tt) (Ok tt) none e t =
       let free = loss_open y rows message e in
       subst On (ap (report_left state) (sym (steps.loss_moves y rows message e)) ∙ lost_uncaused state rows message none)
       (moved none free.settings free.in_time_lem _)
 
   heard_by : (frame : List ℕ) (a b : Answer) → state_cause receiver_end state ≡ a → frame_cause y rows frame message ≡ b
       → T (acceptance (heard_bytes state rows frame message).reply) → On (heard_bytes state rows frame message)
-  heard_by frame (answer.Refused c) b none e t = refused c (sym (heard_caused state rows message frame c none)) t
-  heard_by frame answer.Accepted (answer.Refused c) none e t =
+  heard_by frame (Err c) b none e t = refused c (sym (heard_caused state rows message frame c none)) t
+  heard_by frame (Ok tt) (Err c) none e t =
       refused c (sym (heard_uncaused state rows message frame none) ∙ ap (report_left state) (steps.heard_stays y rows frame message c e)) t
-  heard_by frame answer.Accepted answer.Accepted none e t =
+  heard_by frame (Ok tt) (Ok tt) none e t =
       let free = frame_open y rows message 1 frame e in
       subst On (ap (report_left state) (sym (steps.heard_moves y rows frame message e)) ∙ heard_uncaused state rows message frame none)
       (moved none free.settings free.in_time_lem _)
@@ -211,7 +211,7 @@ without c [] = true
 without c (r ∷ rs) = not (eqb (number_of r.why) (number_of c)) && without c rs
 
 -- what stands above the first cause that holds finds nothing
-first_below : (c : Cause) (rs ss : List Row) → T (without c rs) → First c (rs ++ ss) → (first_of rs ≡ answer.Accepted) × First c ss
+first_below : (c : Cause) (rs ss : List Row) → T (without c rs) → First c (rs ++ ss) → (first_of rs ≡ Ok tt) × First c ss
 first_below c [] ss t f = (refl, f)
 first_below c (r ∷ rs) ss t (here h w) =
     let other = and_left (not (eqb (number_of r.why) (number_of c))) (without c rs) t in
@@ -242,14 +242,14 @@ module _ (state rows frame message : List ℕ) (was : ℕ) (bytes : Bytes frame)
   first_other (here h w) = h
   first_other (later _ rest) = elim rest [ ]
 
-  differ : state_cause receiver_end state ≡ answer.Accepted → first_of above ≡ answer.Accepted → T unlike → Differ
+  differ : state_cause receiver_end state ≡ Ok tt → first_of above ≡ Ok tt → T unlike → Differ
   unfolding receiver_in frame_len frame_slot_bytes slot_read_cause
   differ none clear other =
       let free = none_holds above clear in
       let due = receiver_tells state (passes (accepted z.settings) (free BadSettings)) none was in
       let lengths = framed_lengths z.settings (receiver_len z.settings) (length rows) (length message) (length frame) (passes size (free BadLength)) in
       let long : length frame ≡ frame_len z.settings = lengths.2 in
-      let read : slot_read_cause frame ≡ answer.Accepted =
+      let read : slot_read_cause frame ≡ (Ok tt) =
       rw (le-ltb (length frame) 14 (omega arith), not-false (agree 5 frame (mark 1)) (free OtherMark)) in
       let framed : frame_slot_bytes frame was ≡ told (slot_in frame) = rw read refl in (
         ap (λ (r : Reading). r.reply) due,

@@ -1,14 +1,13 @@
 -- Each call of the static library, as a function of every lent list. Refused for its first cause, it changes nothing; else it is protocol's
 -- call on the state that the bytes keep, and the next state is written over them.
-use Rattle.std.specs.Prelude.{cond, List, ℕ, ℤ}
+use Rattle.std.specs.Prelude.{cond, List, ℕ, ℤ, Ok, Err}
 use Rattle.code.specs.declared.settings.Settings.{Settings}
 use Rattle.code.specs.Settings.{accepted}
 use Rattle.protocol.specs.Lengths.{sender_len}
-use Rattle.protocol.specs.declared.Answer.TheVariants as answer
 use Rattle.protocol.specs.Causes.{number_of}
 use Rattle.protocol.specs.Calls.{OpenedSender, OpenedReceiver, Sent, Reported, open_sender_of, send_of, open_receiver_of, heard_of, loss_of}
 use Rattle.protocol.specs.Calls.{Looked, look_up_of}
-use Rattle.protocol.specs.declared.Answer.{Answer}
+use Rattle.protocol.specs.Answers.{Answer}
 use Rattle.frames.specs.Fields.{settings_at, slot_at, slot_in, slot_read_cause}
 use Rattle.aerials.specs.Pair.{pair_cause}
 use Rattle.state.specs.State.{sender_bytes, receiver_bytes, sender_in, receiver_in, due_read_cause}
@@ -51,8 +50,8 @@ unfoldable pub open_sender_bytes : List ℕ → List ℕ → List ℕ → Openin
 open_sender_bytes settings state rows =
     let s : Settings = settings_of settings in
     elim (open_bytes_cause s (sender_len s) state rows) [
-      | answer.Refused c ↦ record { reply = number_of c; state = state; rows = rows }
-      | answer.Accepted ↦ opened_sender (open_sender_of s rows)
+      | Err c ↦ record { reply = number_of c; state = state; rows = rows }
+      | Ok tt ↦ opened_sender (open_sender_of s rows)
     ]
 
 -- what an opening of a receiver leaves, by protocol's
@@ -68,8 +67,8 @@ unfoldable pub open_receiver_bytes : List ℕ → ℕ → List ℕ → List ℕ 
 open_receiver_bytes settings slot state rows =
     let s : Settings = settings_of settings in
     elim (open_receiver_bytes_cause s slot state rows) [
-      | answer.Refused c ↦ record { reply = number_of c; state = state; rows = rows }
-      | answer.Accepted ↦ opened_receiver (open_receiver_of s slot rows)
+      | Err c ↦ record { reply = number_of c; state = state; rows = rows }
+      | Ok tt ↦ opened_receiver (open_receiver_of s slot rows)
     ]
 
 -- ---- sends
@@ -94,8 +93,8 @@ sent_bytes r = record {
 unfoldable pub send_bytes : List ℕ → List ℕ → List ℕ → List ℕ → Sending
 send_bytes state rows message frame =
     elim (send_bytes_cause state rows message frame) [
-      | answer.Refused c ↦ record { reply = number_of c; state = state; rows = rows; frame = frame }
-      | answer.Accepted ↦ sent_bytes (send_of (sender_in state) rows message frame)
+      | Err c ↦ record { reply = number_of c; state = state; rows = rows; frame = frame }
+      | Ok tt ↦ sent_bytes (send_of (sender_in state) rows message frame)
     ]
 
 -- ---- reports
@@ -120,16 +119,16 @@ reported_bytes r = record {
 unfoldable pub heard_bytes : List ℕ → List ℕ → List ℕ → List ℕ → Reporting
 heard_bytes state rows frame message =
     elim (heard_bytes_cause state rows frame message) [
-      | answer.Refused c ↦ record { reply = number_of c; state = state; rows = rows; message = message }
-      | answer.Accepted ↦ reported_bytes (heard_of (receiver_in state) rows frame message)
+      | Err c ↦ record { reply = number_of c; state = state; rows = rows; message = message }
+      | Ok tt ↦ reported_bytes (heard_of (receiver_in state) rows frame message)
     ]
 
 -- the report of a loss to the receiver that the state keeps
 unfoldable pub lost_bytes : List ℕ → List ℕ → List ℕ → Reporting
 lost_bytes state rows message =
     elim (lost_bytes_cause state rows message) [
-      | answer.Refused c ↦ record { reply = number_of c; state = state; rows = rows; message = message }
-      | answer.Accepted ↦ reported_bytes (loss_of (receiver_in state) rows message)
+      | Err c ↦ record { reply = number_of c; state = state; rows = rows; message = message }
+      | Ok tt ↦ reported_bytes (loss_of (receiver_in state) rows message)
     ]
 
 -- ---- look-ups
@@ -147,8 +146,8 @@ looked_bytes r = record { reply = reply_number r.reply; message = r.message }
 unfoldable pub look_up_bytes : List ℕ → List ℕ → ℤ → List ℕ → Looking
 look_up_bytes state rows number message =
     elim (look_up_bytes_cause state rows number message) [
-      | answer.Refused c ↦ record { reply = number_of c; message = message }
-      | answer.Accepted ↦ looked_bytes (look_up_of (receiver_in state) rows number message)
+      | Err c ↦ record { reply = number_of c; message = message }
+      | Ok tt ↦ looked_bytes (look_up_of (receiver_in state) rows number message)
     ]
 
 -- ---- a pair of recordings
@@ -166,8 +165,8 @@ pub record Reading : Type 0 where
 
 -- by its cause: refused, it leaves the slot as it was; else the slot is what is read
 abbrev pub read_by : Answer → ℕ → ℕ → Reading
-read_by (answer.Refused c) found slot = record { reply = number_of c; slot = slot }
-read_by answer.Accepted found slot = record { reply = 0; slot = found }
+read_by (Err c) found slot = record { reply = number_of c; slot = slot }
+read_by (Ok tt) found slot = record { reply = 0; slot = found }
 
 -- the slot due that a state keeps, of either end
 unfoldable pub slot_due_bytes : List ℕ → ℕ → Reading

@@ -5,7 +5,7 @@ use Rattle.code.specs.declared.settings.Settings.{Settings}
 use Rattle.code.specs.Settings.{accepted}
 use Rattle.protocol.specs.Lengths.{last_slot, receiver_len}
 use Rattle.protocol.specs.declared.Cause.TheVariants.{BadSettings, BadLength, LateOpening}
-use Rattle.protocol.specs.declared.Answer.{Answer}
+use Rattle.protocol.specs.Answers.{Answer}
 use Rattle.protocol.specs.Causes.{Row, row, first_of, send_table, loss_table, frame_table, look_up_table}
 use Rattle.state.specs.State.{sender_end, receiver_end, state_len, sender_in, receiver_in, state_table}
 

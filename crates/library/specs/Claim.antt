@@ -1,13 +1,12 @@
 -- Demand 3 of the static library, as one statement about two lists of its calls, in what its callers see: lent bytes and reply numbers.
 -- It is `Demand3` of protocol's specs/Claim.antt, line by line.
-use Rattle.std.specs.Prelude.{◌≡◌, ◌↔◌, Bool, false, ◌&&◌, ◌||◌, ℕ, ◌+◌, ◌-◌, ◌≤◌, T, eqb, length}
+use Rattle.std.specs.Prelude.{◌≡◌, ◌↔◌, Bool, false, ◌&&◌, ◌||◌, ℕ, ◌+◌, ◌-◌, ◌≤◌, T, eqb, length, Ok}
 use mathlib.Core.List.{List, [], ◌∷◌, Memᴰ}
 use Rattle.galois.specs.Byte.{Bytes}
 use Rattle.code.specs.declared.settings.Settings.{Settings}
 use Rattle.code.specs.Settings.{accepted, delay_of, k_of}
 use Rattle.repair.specs.Fair.{Fair}
-use Rattle.protocol.specs.declared.Answer.TheVariants as answer
-use Rattle.protocol.specs.declared.Reply.TheVariants as reply
+use Rattle.protocol.specs.declared.Told.TheVariants.{Whole}
 use Rattle.protocol.specs.Lengths.{last_slot, message_len, frame_len, sender_len, receiver_len}
 use Rattle.protocol.specs.TwoLists.{Send, Report, heard}
 use Rattle.protocol.specs.Histories.{of_loss, lost_since}
@@ -22,7 +21,7 @@ use Rattle.library.specs.Chains.{SendDone, sends_bytes, ReportDone, reports_byte
 pub record SentAsBytes (sent : List SendDone) (t : ℕ) (message frame : List ℕ) : Type 0 where
   pub send : SendDone
   pub listed : Memᴰ send sent
-  pub taken : send.after.reply ≡ answer_number answer.Accepted
+  pub taken : send.after.reply ≡ answer_number (Ok tt)
   pub slot : send.due ≡ t
   pub given : send.call.message ≡ message
   pub out : send.after.frame ≡ frame
@@ -42,7 +41,7 @@ FaithfulBytes sent told =
 pub record HoldsBytes (s : Settings) (opening : ℕ) (sent : List SendDone) (told : List ReportDone) : Type 0 where
   -- a send replies 0 exactly when no listed cause holds
   pub sends_taken : (b : SendDone) → Memᴰ b sent
-      → (b.after.reply ≡ answer_number answer.Accepted)
+      → (b.after.reply ≡ answer_number (Ok tt))
       ↔ ((length b.call.message ≡ message_len s) × (length b.call.frame ≡ frame_len s) × (b.due ≤ last_slot))
   -- and a report is accepted exactly then
   pub reports_taken : (b : ReportDone) → Memᴰ b told → T (acceptance b.after.reply) ↔ NoCause s b.due b.call
@@ -56,7 +55,7 @@ pub record HoldsBytes (s : Settings) (opening : ℕ) (sent : List SendDone) (tol
   pub on_time : (t : ℕ) (b : ReportDone) → Memᴰ b told → b.due ≡ t + delay_of s → T (acceptance b.after.reply)
       → Fair s (lost_since opening (lost_at_bytes told)) (t + 1 - k_of s) (t + delay_of s)
       → (message : List ℕ) × (frame : List ℕ) × SentAsBytes sent t message frame
-      × (b.after.reply ≡ reply_number reply.Whole) × (b.after.message ≡ message)
+      × (b.after.reply ≡ reply_number (Ok Whole)) × (b.after.message ≡ message)
 
 -- any settings bytes that are accepted, any opening slot up to the last one, any buffers of the exact length lent to both openings, any
 -- list of sends of bytes, any list of reports: both openings reply 0, and, frames being the sender's own, demand 3 holds of the lists
@@ -72,5 +71,5 @@ Demand3Bytes =
     let b : Opening = open_receiver_bytes settings opening receiver_state receiver_rows in
     let sent : List SendDone = sends_bytes 0 a.state a.rows send_calls in
     let told : List ReportDone = reports_bytes opening b.state b.rows report_calls in
-    (a.reply ≡ answer_number answer.Accepted) × (b.reply ≡ answer_number answer.Accepted)
+    (a.reply ≡ answer_number (Ok tt)) × (b.reply ≡ answer_number (Ok tt))
     × (FaithfulBytes sent told → HoldsBytes (settings_of settings) opening sent told)

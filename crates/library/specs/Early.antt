@@ -1,11 +1,11 @@
 -- Document 02 §6 of the static library, as one statement about lists of its calls, reports and look-ups mixed, in what its callers see:
 -- lent bytes and reply numbers. It is `EarlyKnown` of early's specs/Early.antt, line by line.
-use Rattle.std.specs.Prelude.{◌≡◌, ℕ, ◌≤◌, T, length}
+use Rattle.std.specs.Prelude.{◌≡◌, ℕ, ◌≤◌, T, length, Ok}
 use mathlib.Core.List.{List, Memᴰ}
 use Rattle.galois.specs.Byte.{Bytes}
 use Rattle.code.specs.declared.settings.Settings.{Settings}
 use Rattle.code.specs.Settings.{accepted}
-use Rattle.protocol.specs.declared.Reply.TheVariants as reply
+use Rattle.protocol.specs.declared.Told.TheVariants.{Whole, Clash}
 use Rattle.protocol.specs.Lengths.{last_slot, sender_len, receiver_len}
 use Rattle.protocol.specs.Numbers.{reply_number}
 use Rattle.protocol.specs.TwoLists.{Send, heard}
@@ -38,7 +38,7 @@ reported_to_bytes b = due_after_call b.due b.call b.after.reply
 
 -- the reply is whole
 abbrev pub SaysWhole : CallDone → Type 0
-SaysWhole b = b.after.reply ≡ reply_number reply.Whole
+SaysWhole b = b.after.reply ≡ reply_number (Ok Whole)
 
 -- what holds of two lists whose openings had the settings s, the receiver's being at the slot `opening`
 pub record EarlyBytes (s : Settings) (opening : ℕ) (sent : List SendDone) (made : List CallDone) : Type 0 where
@@ -58,7 +58,7 @@ pub record EarlyBytes (s : Settings) (opening : ℕ) (sent : List SendDone) (mad
   pub as_sent : (t : ℕ) (a : CallDone) → TellingBytes s made t a → SaysWhole a
       → (message : List ℕ) × (frame : List ℕ) × SentAsBytes sent t message frame × (a.after.message ≡ message)
   -- and nothing clashes
-  pub no_clash : (t : ℕ) (a : CallDone) → TellingBytes s made t a → a.after.reply ≡ reply_number reply.Clash → ⊥
+  pub no_clash : (t : ℕ) (a : CallDone) → TellingBytes s made t a → a.after.reply ≡ reply_number (Ok Clash) → ⊥
 
 -- any settings bytes that are accepted, any opening slot up to the last one, any buffers of the exact length lent to both openings, any
 -- list of sends of bytes, any list of reports and look-ups, frames being the sender's own

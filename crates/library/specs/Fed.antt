@@ -1,13 +1,13 @@
 -- Document 02 §7 of the static library, in what its callers see: a pair for which its check replies 0, fed slot by slot to a receiver that
 -- it opened. It is `PairFed` and `PairFaithfulDemand3` of feeding's specs/Fed.antt, line by line.
-use Rattle.std.specs.Prelude.{◌≡◌, ◌⊎◌, ◌↔◌, ℕ, ◌+◌, ◌-◌, ◌≤◌, T, length}
+use Rattle.std.specs.Prelude.{◌≡◌, ◌⊎◌, ◌↔◌, ℕ, ◌+◌, ◌-◌, ◌≤◌, T, length, Ok}
 use mathlib.Core.List.{List, [], ◌∷◌, Memᴰ}
 use Rattle.galois.specs.Byte.{Bytes}
 use Rattle.code.specs.declared.settings.Settings.{Settings}
 use Rattle.code.specs.Settings.{delay_of, k_of}
 use Rattle.repair.specs.Fair.{Fair}
 use Rattle.protocol.specs.declared.Cause.TheVariants.{BadLength, PastLastSlot}
-use Rattle.protocol.specs.declared.Reply.TheVariants as reply
+use Rattle.protocol.specs.declared.Told.TheVariants.{Whole}
 use Rattle.protocol.specs.Lengths.{last_slot, message_len}
 use Rattle.protocol.specs.Causes.{number_of}
 use Rattle.protocol.specs.Numbers.{reply_number}
@@ -69,7 +69,7 @@ pub record HoldsOfPairBytes (s : Settings) (opening : ℕ) (first second : List 
   pub on_time : (t : ℕ) (b : ReportDone) → Memᴰ b told → b.due ≡ t + delay_of s → T (acceptance b.after.reply)
       → Fair s (lost_since opening (neither s first second)) (t + 1 - k_of s) (t + delay_of s)
       → (message : List ℕ) × (frame : List ℕ) × SentAsBytes sent t message frame
-      × (b.after.reply ≡ reply_number reply.Whole) × (b.after.message ≡ message)
+      × (b.after.reply ≡ reply_number (Ok Whole)) × (b.after.message ≡ message)
 
 -- the same, with any opening of a sender that replies 0 and any list of sends of bytes, each frame that was accepted being the sender's
 unfoldable pub PairDemand3Bytes : Type 0

@@ -7,7 +7,7 @@ use Prim.Native.Nat.{ℕ, ◌≤◌, ◌<◌}
 use lib.Dec.{ltb}
 use lib.ListN.{length}
 use borrow.Author.Tests.{lt-ltb, le-ltb, ltb-false}
-use Rattle.protocol.specs.declared.Reply.{Reply}
+use Rattle.protocol.specs.Answers.{Reply}
 use Rattle.lines.specs.Text.{stop_text, line_of, written}
 use Rattle.lines.specs.Lent.{longest, Line, line_on, stop_room, stop_text_on}
 use Rattle.lines.proofs.TextLaws.{stop_length}

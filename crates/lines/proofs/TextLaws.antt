@@ -1,4 +1,5 @@
 -- Text written over the start of a line: one text after another, and the lengths.
+use Rattle.std.specs.Prelude.{Ok, Err}
 use mathlib.Core.Path.{◌≡◌, sym, ap, ap₂, ◌∙◌}
 use mathlib.Core.List.{List, [], ◌∷◌, ◌++◌}
 use Prim.Native.Nat.{ℕ, ◌+◌, ◌*◌, ◌≤◌, ◌<◌, zero-le}
@@ -6,8 +7,8 @@ use native.Mathlib.Nat.{zero-add}
 use native.Mathlib.Omega.{arith}
 use lib.ListN.{length, set, take, drop, length-append, length-drop}
 use lib.Seq.{take-append_seam}
-use Rattle.protocol.specs.declared.Reply.{Reply}
-use Rattle.protocol.specs.declared.Reply.TheVariants.{Refused, NoneYet, Whole, Lost, Clash}
+use Rattle.protocol.specs.Answers.{Reply}
+use Rattle.protocol.specs.declared.Told.TheVariants.{NoneYet, Whole, Lost, Clash}
 use Rattle.protocol.specs.Causes.{number_of}
 use Rattle.numbers.specs.Digits.{put}
 use Rattle.numbers.proofs.Decimals.{decimal_length}
@@ -53,9 +54,9 @@ stop_length n = simp length-append (omega (arith, decimal_length n))
 -- a line fits in 18 bytes and two for each byte of the message
 pub line_fits : (about : ℕ) (r : Reply) (message : List ℕ) → length (line_of about r message) ≤ 18 + 2 * length message
 unfolding line_of
-line_fits about (Refused c) message = omega (arith, stop_length (number_of c))
-line_fits about NoneYet message = omega arith
-line_fits about Whole message =
+line_fits about (Err c) message = omega (arith, stop_length (number_of c))
+line_fits about (Ok NoneYet) message = omega arith
+line_fits about (Ok Whole) message =
     simp length-append (omega (arith, decimal_length about, hex_length message))
-line_fits about Lost message = simp length-append (omega (arith, decimal_length about))
-line_fits about Clash message = simp length-append (omega (arith, decimal_length about))
+line_fits about (Ok Lost) message = simp length-append (omega (arith, decimal_length about))
+line_fits about (Ok Clash) message = simp length-append (omega (arith, decimal_length about))

@@ -1,11 +1,12 @@
 -- What the writers leave on a line, step by step: one text after another, `stop` with its number, and the line of a message that is
 -- whole.
+use Rattle.std.specs.Prelude.{Ok}
 use mathlib.Core.Path.{◌≡◌, refl, sym, ap, ap₂, ◌∙◌}
 use mathlib.Core.List.{List, [], ◌∷◌, ◌++◌}
 use Prim.Native.Nat.{ℕ, ◌+◌, ◌*◌, ◌≤◌}
 use native.Mathlib.Omega.{arith}
 use lib.ListN.{length, set, length-append}
-use Rattle.protocol.specs.declared.Reply.TheVariants.{Whole}
+use Rattle.protocol.specs.declared.Told.TheVariants.{Whole}
 use Rattle.numbers.specs.Digits.{decimal, hex, put}
 use Rattle.numbers.proofs.Decimals.{decimal_length}
 use Rattle.numbers.proofs.HexDigits.{hex_length}
@@ -62,7 +63,7 @@ module _ (about : ℕ) (message line : List ℕ) (room : 18 + 2 * length message
       (omega (arith, word_fits about, hex_length message))
 
   -- the whole line is written
-  pub whole_written : (end + 1 ≡ length (line_of about Whole message)) × (set whole end 10 ≡ written (line_of about Whole message) line)
+  pub whole_written : (end + 1 ≡ length (line_of about (Ok Whole) message)) × (set whole end 10 ≡ written (line_of about (Ok Whole) message) line)
   unfolding line_of
   whole_written =
       let text : List ℕ = decimal about ++ whole_word ++ hex message in

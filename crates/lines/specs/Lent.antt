@@ -1,7 +1,7 @@
 -- A line written over the start of a lent one, where there is room: else nothing changes.
 use Rattle.std.specs.Prelude.{true, false, List, ℕ, ◌+◌, ◌*◌, ltb, length}
 use Rattle.protocol.specs.declared.Cause.{Cause}
-use Rattle.protocol.specs.declared.Reply.{Reply}
+use Rattle.protocol.specs.Answers.{Reply}
 use Rattle.protocol.specs.Causes.{number_of}
 use Rattle.lines.specs.Text.{stop_text, line_of, written}
 

@@ -1,8 +1,8 @@
 -- Document 01, "Playing a recording": the lines, as bytes.
-use Rattle.std.specs.Prelude.{◌≡◌, List, [], ◌∷◌, ◌++◌, ℕ, length, drop}
+use Rattle.std.specs.Prelude.{◌≡◌, List, [], ◌∷◌, ◌++◌, ℕ, length, drop, Ok, Err}
 use Rattle.protocol.specs.declared.Cause.{Cause}
-use Rattle.protocol.specs.declared.Reply.{Reply}
-use Rattle.protocol.specs.declared.Reply.TheVariants.{Refused, NoneYet, Whole, Lost, Clash}
+use Rattle.protocol.specs.Answers.{Reply}
+use Rattle.protocol.specs.declared.Told.TheVariants.{NoneYet, Whole, Lost, Clash}
 use Rattle.protocol.specs.Causes.{number_of}
 use Rattle.numbers.specs.Digits.{decimal, hex}
 
@@ -30,11 +30,11 @@ stop_line c = stop_text (number_of c)
 -- what a report prints of the message that it tells of: its number, a space, and the reply; after `whole` the message; `none yet` prints
 -- no line
 unfoldable pub line_of : ℕ → Reply → List ℕ → List ℕ
-line_of about (Refused c) message = stop_line c
-line_of about NoneYet message = []
-line_of about Whole message = decimal about ++ whole_word ++ hex message ++ 10 ∷ []
-line_of about Lost message = decimal about ++ lost_word
-line_of about Clash message = decimal about ++ clash_word
+line_of about (Err c) message = stop_line c
+line_of about (Ok NoneYet) message = []
+line_of about (Ok Whole) message = decimal about ++ whole_word ++ hex message ++ 10 ∷ []
+line_of about (Ok Lost) message = decimal about ++ lost_word
+line_of about (Ok Clash) message = decimal about ++ clash_word
 
 -- a text written over the start of a lent line
 unfoldable pub written : List ℕ → List ℕ → List ℕ

@@ -7,8 +7,7 @@ mod text;
 ghost use Rattle.std.specs.Prelude.{◌≡◌, ◌+◌, ◌*◌, leb};
 ghost use Rattle.lines.specs.Lent.{line_on, stop_text_on, stop_on};
 
-use ends::number_of;
-use protocol::{Cause, Reply};
+use protocol::{Cause, Told};
 use text::{put_line, put_stop};
 
 // Whether a line has room for the longest that this message buffer can give.
@@ -25,7 +24,7 @@ pub fn has_room(line: usize, message: usize) -> bool
 }
 
 // The line of a report, and how long it is: 0 where the lent line has no room for the longest.
-pub fn write_line(about: u32, reply: Reply, message: &[u8], line: &mut [u8]) -> usize
+pub fn write_line(about: u32, reply: Result<Told, Cause>, message: &[u8], line: &mut [u8]) -> usize
     ensures { record { line = line.new; len = result } ≡ line_on about reply message.now line.old }
 {
     if !has_room(line.len(), message.len()) {
@@ -48,5 +47,5 @@ pub fn write_stop_number(n: u32, line: &mut [u8]) -> usize
 pub fn write_stop(c: Cause, line: &mut [u8]) -> usize
     ensures { record { line = line.new; len = result } ≡ stop_on c line.old }
 {
-    write_stop_number(number_of(c), line)
+    write_stop_number(u32::from(c), line)
 }

@@ -5,9 +5,8 @@ ghost use Rattle.lines.specs.Text.{stop_text, line_of, Writes};
 ghost use Rattle.lines.specs.Lent.{stop_room};
 
 use buffers::write_at;
-use ends::number_of;
 use numbers::{write_decimal, write_hex};
-use protocol::Reply;
+use protocol::{Cause, Told};
 
 // A number in decimal, then a word.
 fn write_word(about: u32, word: &[u8], line: &mut [u8]) -> usize
@@ -22,7 +21,7 @@ fn write_word(about: u32, word: &[u8], line: &mut [u8]) -> usize
 // The line of a message that is whole.
 fn write_whole(about: u32, message: &[u8], line: &mut [u8]) -> usize
     requires { 18 + 2 * length message.now ≤ length line.old }
-    ensures { Writes (line_of about Reply.Whole message.now) line.old result line.new }
+    ensures { Writes (line_of about (Ok Told.Whole) message.now) line.old result line.new }
 {
     let start = write_word(about, b" whole ", line);
     let end = write_hex(message, line, start);
@@ -41,16 +40,31 @@ pub(crate) fn put_stop(n: u32, line: &mut [u8]) -> usize
     at + 1
 }
 
-// What a report prints of the message that it tells of, where there is room for the longest line.
-pub(crate) fn put_line(about: u32, reply: Reply, message: &[u8], line: &mut [u8]) -> usize
+// What an accepted report prints of the message that it tells of.
+fn put_told(about: u32, told: Told, message: &[u8], line: &mut [u8]) -> usize
+    requires { 18 + 2 * length message.now ≤ length line.old }
+    ensures { Writes (line_of about (Ok told) message.now) line.old result line.new }
+{
+    match told {
+        Told::NoneYet => 0,
+        Told::Whole => write_whole(about, message, line),
+        Told::Lost => write_word(about, b" lost\n", line),
+        Told::Clash => write_word(about, b" clash\n", line),
+    }
+}
+
+// What a report prints, where there is room for the longest line.
+pub(crate) fn put_line(
+    about: u32,
+    reply: Result<Told, Cause>,
+    message: &[u8],
+    line: &mut [u8],
+) -> usize
     requires { 18 + 2 * length message.now ≤ length line.old }
     ensures { Writes (line_of about reply message.now) line.old result line.new }
 {
     match reply {
-        Reply::Refused(c) => put_stop(number_of(c), line),
-        Reply::NoneYet => 0,
-        Reply::Whole => write_whole(about, message, line),
-        Reply::Lost => write_word(about, b" lost\n", line),
-        Reply::Clash => write_word(about, b" clash\n", line),
+        Err(c) => put_stop(u32::from(c), line),
+        Ok(told) => put_told(about, told, message, line),
     }
 }

@@ -1,4 +1,5 @@
 -- A pair of which one recording is empty: `one_empty`, whose statement is `OneEmpty` of specs/Alone.antt.
+use Rattle.std.specs.Prelude.{Ok, Err}
 use mathlib.Core.Path.{◌≡◌, refl, sym, ap, ◌∙◌}
 use mathlib.Core.Bool.{Bool, true, false, not, ◌||◌, or-false}
 use mathlib.Core.Logic.{◌≢◌, ◌⊎◌, inl, inr, ⊎_elim}
@@ -15,7 +16,6 @@ use Rattle.code.specs.declared.settings.Settings.{Settings}
 use Rattle.code.specs.Settings.{accepted}
 use Rattle.protocol.specs.declared.Cause.{Cause}
 use Rattle.protocol.specs.declared.Cause.TheVariants.{BadSettings, BadLength, OtherMark}
-use Rattle.protocol.specs.declared.Answer.TheVariants as answer
 use Rattle.protocol.specs.Lengths.{message_len, frame_len, receiver_len}
 use Rattle.protocol.specs.Frame.{mark}
 use Rattle.protocol.specs.States.{opened_receiver}
@@ -186,19 +186,19 @@ module _ (recording : List ℕ) (some : length recording ≢ 0) where
   unfolding pair_transcript
   second_stops n e = rw (ne_eqb (0 + length recording) 0 (λ z. some (omega arith)), stop_second ∙ e, pair_transcript)
 
-  alone_stops : (c : Cause) → recording_cause recording ≡ answer.Refused c → transcript recording ≡ stop_text (number_of c)
+  alone_stops : (c : Cause) → recording_cause recording ≡ Err c → transcript recording ≡ stop_text (number_of c)
   unfolding transcript
   alone_stops c e = rw (ne_eqb (length recording) 0 some, e, transcript)
 
   -- the same, where both are of one number
-  both_stop : (n : ℕ) (c : Cause) → pair_stop recording [] ≡ suc n → recording_cause recording ≡ answer.Refused c → number_of c ≡ suc n
+  both_stop : (n : ℕ) (c : Cause) → pair_stop recording [] ≡ suc n → recording_cause recording ≡ Err c → number_of c ≡ suc n
       → AsAlone recording
   both_stop n c e found is =
       let alone : transcript recording ≡ stop_text (suc n) = alone_stops c found ∙ ap stop_text is in
       record { as_first = first_stops n e ∙ sym alone; as_second = second_stops n e ∙ sym alone }
 
   -- and where both are played
-  both_play : 14 ≤ length recording → pair_stop recording [] ≡ 0 → recording_cause recording ≡ answer.Accepted → AsAlone recording
+  both_play : 14 ≤ length recording → pair_stop recording [] ≡ 0 → recording_cause recording ≡ Ok tt → AsAlone recording
   unfolding transcript pair_transcript
   both_play headed e found =
       let alone : transcript recording ≡ played_from s recording = rw (ne_eqb (length recording) 0 some, found, transcript) in
@@ -242,7 +242,7 @@ module _ (recording : List ℕ) (some : length recording ≢ 0) where
 
   module _ (headed : 14 ≤ length recording) where
     -- alone, a length over 64 KiB comes first
-    alone_long : 65536 < length recording → recording_cause recording ≡ answer.Refused BadLength
+    alone_long : 65536 < length recording → recording_cause recording ≡ Err BadLength
     unfolding recording_cause
     alone_long long = rw (le-ltb (length recording) 14 headed, lt-ltb 65536 (length recording) long)
 
@@ -252,7 +252,7 @@ module _ (recording : List ℕ) (some : length recording ≢ 0) where
 
     module _ (short : length recording ≤ 65536) where
       -- then the settings
-      alone_settings : accepted s ≡ false → recording_cause recording ≡ answer.Refused BadSettings
+      alone_settings : accepted s ≡ false → recording_cause recording ≡ Err BadSettings
       unfolding recording_cause
       alone_settings e = rw (le-ltb (length recording) 14 headed, le-ltb 65536 (length recording) short, e)
 
@@ -302,14 +302,14 @@ module _ (recording : List ℕ) (some : length recording ≢ 0) where
       (first_stops 0 stops, second_stops 0 stops, alone_stops BadLength (alone_long headed long))
 
   -- the mark of its first frame
-  module _ (found : recording_cause recording ≡ answer.Accepted) (other : agree 5 (frame_of s recording 0) (mark 1) ≡ false) where
+  module _ (found : recording_cause recording ≡ Ok tt) (other : agree 5 (frame_of s recording 0) (mark 1) ≡ false) where
     -- it has the length and the settings that are asked
     clear : (14 ≤ length recording) × (unfit s recording ≡ false) × T (accepted s) × (0 < frames_in s recording)
     unfolding recording_cause unfit frames_in
     clear =
         let at2 = check_clear (ltb (length recording) 14 || ltb 65536 (length recording)) BadLength _ found in
         let at1 = check_clear (not (accepted s)) BadSettings _ at2.1 in
-        let part = check_clear (not (eqb (length recording % frame_len s) 0)) BadLength answer.Accepted at1.1 in
+        let part = check_clear (not (eqb (length recording % frame_len s) 0)) BadLength (Ok tt) at1.1 in
         let (headed, short) = neither (ltb (length recording) 14) (ltb 65536 (length recording)) at2.0 in
         let whole = eqb-true (length recording % frame_len s) 0 (not-false (eqb (length recording % frame_len s) 0) part.0) in
         let frames : 0 < length recording / frame_len s = go (length recording / frame_len s) refl whole in

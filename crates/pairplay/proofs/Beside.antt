@@ -1,4 +1,5 @@
 -- A recording beside an empty one: what the pair prints slot by slot is what the recording prints frame by frame.
+use Rattle.std.specs.Prelude.{Ok}
 use mathlib.Core.Path.{◌≡◌, refl, sym, ap, ◌∙◌}
 use mathlib.Core.Bool.{Bool, true, false}
 use mathlib.Core.Logic.{⊎_elim}
@@ -12,7 +13,6 @@ use borrow.Author.Tests.{ne_eqb}
 use Rattle.galois.proofs.Cases.{le_or_lt}
 use Rattle.code.specs.declared.settings.Settings.{Settings}
 use Rattle.protocol.specs.declared.Receiver.{Receiver}
-use Rattle.protocol.specs.declared.Answer.TheVariants as answer
 use Rattle.protocol.specs.Lengths.{frame_len}
 use Rattle.protocol.specs.Frame.{mark, five}
 use Rattle.protocol.specs.States.{receiver_at}
@@ -97,7 +97,7 @@ module _ (s : Settings) (first second recording : List ℕ) (b : Beside s first 
         ap (λ (part : List ℕ). fed_by part message) (b.lends j within) ∙ some
 
     -- its mark and settings are those of the receiver
-    own : header_cause 1 s frame ≡ answer.Accepted
+    own : header_cause 1 s frame ≡ Ok tt
     unfolding header_cause
     own =
         rw (

@@ -1,5 +1,6 @@
 -- What a loop over the steps of a pair needs: fewer slots are left after each, the settings and the message buffer's length stay, and what
 -- is printed fits.
+use Rattle.std.specs.Prelude.{Ok, Err}
 use mathlib.Core.Path.{◌≡◌, refl}
 use mathlib.Core.Bool.{false, true≢false}
 use mathlib.Core.List.{List}
@@ -7,8 +8,7 @@ use Prim.Native.Nat.{ℕ, ◌+◌, ◌-◌, ◌*◌, ◌≤◌, ◌<◌}
 use native.Mathlib.Omega.{arith}
 use lib.ListN.{length}
 use Rattle.protocol.specs.declared.Receiver.{Receiver}
-use Rattle.protocol.specs.declared.Answer.{Answer}
-use Rattle.protocol.specs.declared.Answer.TheVariants as answer
+use Rattle.protocol.specs.Answers.{Answer}
 use Rattle.protocol.specs.States.{reported_on}
 use Rattle.protocol.specs.Causes.{number_of, loss_cause, frame_cause}
 use Rattle.protocol.specs.Calls.{Reported, moved_on, message_due, loss_of, heard_of}
@@ -67,8 +67,8 @@ module _ (x : Receiver) (rows message : List ℕ) where
   loss_kept = go (loss_cause x rows message) refl
     where
       go : (f : Answer) → loss_cause x rows message ≡ f → (loss_of x rows message).receiver.settings ≡ x.settings
-      go answer.Accepted is = rw (loss_moves x rows message is)
-      go (answer.Refused c) is = rw (loss_stays x rows message c is)
+      go (Ok tt) is = rw (loss_moves x rows message is)
+      go (Err c) is = rw (loss_stays x rows message c is)
 
   -- and so does a frame
   heard_kept : (frame : List ℕ) → (heard_of x rows frame message).receiver.settings ≡ x.settings
@@ -76,8 +76,8 @@ module _ (x : Receiver) (rows message : List ℕ) where
   heard_kept frame = go (frame_cause x rows frame message) refl
     where
       go : (f : Answer) → frame_cause x rows frame message ≡ f → (heard_of x rows frame message).receiver.settings ≡ x.settings
-      go answer.Accepted is = rw (heard_moves x rows frame message is)
-      go (answer.Refused c) is = rw (heard_stays x rows frame message c is)
+      go (Ok tt) is = rw (heard_moves x rows frame message is)
+      go (Err c) is = rw (heard_stays x rows frame message c is)
 
 module _ (p : Player) (first second rows message : List ℕ) where
   -- a step leaves the receiver its settings

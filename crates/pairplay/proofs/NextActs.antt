@@ -1,5 +1,6 @@
 -- What a step of an accepted pair comes to where a slot is next: it is too far off, and 6 is the end; or the slot due is reported by what
 -- the pair lends for it.
+use Rattle.std.specs.Prelude.{Ok, Err}
 use mathlib.Core.Path.{◌≡◌, sym, ap, ◌∙◌}
 use mathlib.Core.Bool.{true, false, true≢false}
 use mathlib.Core.Logic.{⊎_elim}
@@ -12,7 +13,6 @@ use borrow.Author.Tests.{ne_eqb, lt-ltb, le-ltb}
 use Rattle.code.specs.declared.settings.Settings.{Settings}
 use Rattle.protocol.specs.declared.Receiver.{Receiver}
 use Rattle.protocol.specs.declared.Cause.TheVariants.{OtherSlot}
-use Rattle.protocol.specs.declared.Answer.TheVariants as answer
 use Rattle.protocol.specs.Frame.{mark, five}
 use Rattle.protocol.specs.States.{reported_on}
 use Rattle.protocol.specs.Causes.{agree, header_cause}
@@ -65,7 +65,7 @@ module _ (s : Settings) (first second : List ℕ) (accepted : pair_cause s first
     lent_slot = ap slot_in frame.is ∙ frame.stands
 
     -- and its mark and its settings are the pair's
-    lent_header : header_cause 1 s (lent s first second slot) ≡ answer.Accepted
+    lent_header : header_cause 1 s (lent s first second slot) ≡ Ok tt
     unfolding header_cause
     lent_header =
         let pair = checked s first second accepted in
@@ -114,12 +114,12 @@ module _ (p : Player) (first second rows message : List ℕ) (accepted : pair_ca
         let s : Settings = p.receiver.settings in
         let at = lent_slot s first second accepted n frame in
         let own = lent_header s first second accepted n frame in
-        let stops : frame_stop p.receiver (lent s first second n) ≡ answer.Refused OtherSlot =
+        let stops : frame_stop p.receiver (lent s first second n) ≡ Err OtherSlot =
         sym (stop_above p.receiver (lent s first second n) own (rw at found.0) (rw at far)) in
         rw (lent_act n next, frame_act, stops)
 
     -- else its frame does not stop the player
-    passes : n ≤ p.receiver.due + 4095 → frame_stop p.receiver (lent p.receiver.settings first second n) ≡ answer.Accepted
+    passes : n ≤ p.receiver.due + 4095 → frame_stop p.receiver (lent p.receiver.settings first second n) ≡ Ok tt
     passes near =
         let s : Settings = p.receiver.settings in
         let at = lent_slot s first second accepted n frame in

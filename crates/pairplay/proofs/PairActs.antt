@@ -1,12 +1,12 @@
 -- What one step of a pair comes to: the end, a refusal, a loss or a frame, by the next slot that either has.
+use Rattle.std.specs.Prelude.{Ok, Err}
 use mathlib.Core.Path.{◌≡◌, refl}
 use mathlib.Core.Bool.{Bool, true, false}
 use mathlib.Core.List.{List}
 use Prim.Native.Nat.{ℕ}
 use lib.Dec.{ltb}
 use Rattle.protocol.specs.declared.Cause.{Cause}
-use Rattle.protocol.specs.declared.Answer.{Answer}
-use Rattle.protocol.specs.declared.Answer.TheVariants as answer
+use Rattle.protocol.specs.Answers.{Answer}
 use Rattle.protocol.specs.Calls.{loss_of, heard_of}
 use Rattle.frames.specs.Fields.{slot_in}
 use Rattle.std.specs.Prelude.{Option, Some, None}
@@ -48,9 +48,9 @@ module _ (p : Player) (rows message : List ℕ) (Q : Act → Type 0)
     where
       go : (f : Answer) → frame_stop p.receiver frame ≡ f → (b : Bool) → ltb p.receiver.due (slot_in frame) ≡ b
           → Q (frame_act p frame p.offset rows message)
-      go (answer.Refused c) e b d = rw (e, frame_act) (stopped c)
-      go answer.Accepted e true d = rw (e, frame_act) (rw d lost)
-      go answer.Accepted e false d = rw (e, frame_act) (rw d (heard frame))
+      go (Err c) e b d = rw (e, frame_act) (stopped c)
+      go (Ok tt) e true d = rw (e, frame_act) (rw d lost)
+      go (Ok tt) e false d = rw (e, frame_act) (rw d (heard frame))
 
 module _ (p : Player) (first second rows message : List ℕ) (Q : Act → Type 0)
     (ended : Q (end_act p rows message))

@@ -1,9 +1,8 @@
 -- A pair of which one recording is empty, beside the other played alone: for which recordings both print the same, and where they part.
-use Rattle.std.specs.Prelude.{◌≡◌, false, List, [], ℕ, ◌≤◌, ◌<◌, length}
+use Rattle.std.specs.Prelude.{◌≡◌, false, List, [], ℕ, ◌≤◌, ◌<◌, length, Ok}
 use Rattle.code.specs.Settings.{accepted}
 use Rattle.protocol.specs.Frame.{mark}
 use Rattle.protocol.specs.Causes.{agree}
-use Rattle.protocol.specs.declared.Answer.TheVariants as answer
 use Rattle.frames.specs.Fields.{settings_in}
 use Rattle.aerials.specs.Pair.{frame_of}
 use Rattle.lines.specs.Text.{stop_text}
@@ -25,5 +24,5 @@ pub record OneEmpty : Type 0 where
   pub too_long : (recording : List ℕ) → 65536 < length recording → accepted (settings_in recording) ≡ false
       → (pair_transcript recording [] ≡ stop_text 1) × (pair_transcript [] recording ≡ stop_text 1) × (transcript recording ≡ stop_text 2)
   -- one whose first frame has another mark or version
-  pub other_mark_lem : (recording : List ℕ) → recording_cause recording ≡ answer.Accepted
+  pub other_mark_lem : (recording : List ℕ) → recording_cause recording ≡ Ok tt
       → agree 5 (frame_of (settings_in recording) recording 0) (mark 1) ≡ false → AsAlone recording

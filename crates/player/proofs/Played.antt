@@ -1,4 +1,5 @@
 -- Every recording: what its fillings hand out, one after another, is its transcript, and they end.
+use Rattle.std.specs.Prelude.{Ok, Err}
 use mathlib.Core.Path.{◌≡◌, refl}
 use mathlib.Core.Bool.{Bool, true, false}
 use mathlib.Core.List.{List, ◌++◌, append_assoc}
@@ -8,8 +9,7 @@ use lib.ListN.{length, drop, length-replicate}
 use lib.Seq.{take_at}
 use borrow.Author.Tests.{ltb-true, ltb-false}
 use Rattle.code.specs.declared.settings.Settings.{Settings}
-use Rattle.protocol.specs.declared.Answer.{Answer}
-use Rattle.protocol.specs.declared.Answer.TheVariants as answer
+use Rattle.protocol.specs.Answers.{Answer}
 use Rattle.lines.specs.Text.{written}
 use Rattle.lines.specs.Lent.{longest}
 use Rattle.stops.specs.declared.Start.TheVariants.{Play}
@@ -100,8 +100,8 @@ module _ (recording rows message : List ℕ) (buffer : ℕ → List ℕ) (fit : 
       → Printed recording rows message buffer (transcript recording)
   unfolding start_of transcript Fitting begin_of longest
   printed_by true none f found = rw (none, transcript) (Printed.nothing (rw (none, start_of)))
-  printed_by false some (answer.Refused c) found = rw (some, found, transcript) (Printed.refused c (rw (some, found, start_of)))
-  printed_by false some answer.Accepted found =
+  printed_by false some (Err c) found = rw (some, found, transcript) (Printed.refused c (rw (some, found, start_of)))
+  printed_by false some (Ok tt) found =
       let s : Settings = settings_in recording in
       let starts : start_of recording ≡ Play s = rw (some, found, start_of) in
       let pass = passed recording found in

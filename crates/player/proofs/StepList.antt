@@ -1,4 +1,5 @@
 -- The lines of the steps, one after another, are the transcript, and the steps end.
+use Rattle.std.specs.Prelude.{Ok, Err}
 use mathlib.Core.Path.{◌≡◌, refl, ap}
 use mathlib.Core.Bool.{Bool, true, false}
 use mathlib.Core.List.{List, ◌∷◌, ◌++◌, append-nil}
@@ -11,10 +12,9 @@ use lib.Seq.{drop-drop}
 use Rattle.code.specs.declared.settings.Settings.{Settings}
 use Rattle.code.specs.Settings.{accepted}
 use Rattle.protocol.specs.declared.Receiver.{Receiver}
-use Rattle.protocol.specs.declared.Answer.TheVariants as answer
 use Rattle.protocol.specs.Lengths.{message_len, frame_len, receiver_len}
 use Rattle.protocol.specs.States.{opened_receiver, reported_on}
-use Rattle.protocol.specs.declared.Answer.{Answer}
+use Rattle.protocol.specs.Answers.{Answer}
 use Rattle.protocol.specs.Calls.{opened_rows, Reported, loss_of, heard_of}
 use Rattle.protocol.proofs.ReportChain.{opened_receiver_lem}
 use Rattle.frames.specs.Fields.{slot_in}
@@ -70,7 +70,7 @@ module _ (recording : List ℕ) (offset : ℕ) (frames : List (List ℕ)) where
 
   -- the report of a frame at the slot due, and what comes after it
   heard_steps : (y : Receiver) → offset + frame_len y.settings ≤ length recording → After y.settings → (rows message : List ℕ)
-      → frame_stop y (here y.settings) ≡ answer.Accepted → slot_in (here y.settings) ≤ y.due
+      → frame_stop y (here y.settings) ≡ Ok tt → slot_in (here y.settings) ≤ y.due
       → Steps recording (player_at y offset) rows message (finish y.settings y rows message)
   heard_steps y fits after rows message e reached =
       let r : Reported = heard_of y rows (here y.settings) message in
@@ -80,7 +80,7 @@ module _ (recording : List ℕ) (offset : ℕ) (frames : List (List ℕ)) where
 
   -- the skipped slots, then the frame
   skip_steps : (m : ℕ) (y : Receiver) → offset + frame_len y.settings ≤ length recording → After y.settings → (rows message : List ℕ)
-      → frame_stop y (here y.settings) ≡ answer.Accepted → slot_in (here y.settings) - y.due ≡ m
+      → frame_stop y (here y.settings) ≡ Ok tt → slot_in (here y.settings) - y.due ≡ m
       → Steps recording (player_at y offset) rows message (skipped m (finish y.settings) y rows message)
   unfolding skipped
   skip_steps zero y fits after rows message e left = heard_steps y fits after rows message e (omega arith)
@@ -88,7 +88,7 @@ module _ (recording : List ℕ) (offset : ℕ) (frames : List (List ℕ)) where
       let frame : List ℕ = here y.settings in
       let above : y.due < slot_in frame = omega arith in
       let r : Reported = loss_of y rows message in
-      let onto : frame_stop (reported_on y) frame ≡ answer.Accepted =
+      let onto : frame_stop (reported_on y) frame ≡ (Ok tt) =
       passing_stop (reported_on y) frame (passing_onward y frame e above) in
       report_by recording (player_at y offset) rows message offset r (skipped m (finish y.settings))
       (act_loss recording (player_at y offset) fits rows message e above)
@@ -102,8 +102,8 @@ module _ (recording : List ℕ) (offset : ℕ) (frames : List (List ℕ)) where
     where
       go : (f : Answer) → frame_stop y (here y.settings) ≡ f
           → Steps recording (player_at y offset) rows message (played (here y.settings ∷ frames) y rows message)
-      go answer.Accepted e = rw (e, played) (skip_steps (slot_in (here y.settings) - y.due) y fits after rows message e refl)
-      go (answer.Refused c) e =
+      go (Ok tt) e = rw (e, played) (skip_steps (slot_in (here y.settings) - y.due) y fits after rows message e refl)
+      go (Err c) e =
           rw (e, played)
           (Steps.last (player_at y offset) rows message (stop_act (player_at y offset) rows message c)
           (act_stop recording (player_at y offset) fits rows message c e) refl)

@@ -1,4 +1,5 @@
 -- A measure of the steps left, which falls at every step that leaves more to play.
+use Rattle.std.specs.Prelude.{Ok}
 use mathlib.Core.Path.{◌≡◌}
 use mathlib.Core.Bool.{false}
 use mathlib.Core.List.{List}
@@ -7,7 +8,6 @@ use native.Mathlib.Omega.{arith}
 use lib.ListN.{length}
 use Rattle.protocol.specs.declared.Cause.{Cause}
 use Rattle.protocol.specs.Lengths.{frame_len}
-use Rattle.protocol.specs.declared.Answer.TheVariants as answer
 use Rattle.protocol.specs.Calls.{Reported, loss_of, heard_of}
 use Rattle.frames.specs.Fields.{slot_in}
 use Rattle.stops.specs.Stops.{frame_stop}
@@ -45,7 +45,7 @@ module _ (p : Player) (recording : List ℕ) where
   stop_falls rows message c more = let z : ◌≡◌ {A = ℕ} 0 1 = cc in absurd (omega arith)
 
   -- after a loss the frame is the same, and one slot fewer is to skip
-  loss_falls : (rows message : List ℕ) → frame_stop p.receiver (frame_at recording p) ≡ answer.Accepted
+  loss_falls : (rows message : List ℕ) → frame_stop p.receiver (frame_at recording p) ≡ Ok tt
       → p.receiver.due < slot_in (frame_at recording p)
       → Falls (report_act p.receiver p.offset (loss_of p.receiver rows message))
   unfolding report_act steps_left

@@ -1,9 +1,8 @@
 -- Document 01, "Playing a recording": the bytes that are printed for the bytes of a recording.
-use Rattle.std.specs.Prelude.{true, false, List, [], ◌∷◌, ◌++◌, ℕ, zero, suc, ◌-◌, ◌/◌, eqb, length, take, drop, replicate}
+use Rattle.std.specs.Prelude.{true, false, List, [], ◌∷◌, ◌++◌, ℕ, zero, suc, ◌-◌, ◌/◌, eqb, length, take, drop, replicate, Ok, Err}
 use Rattle.code.specs.declared.settings.Settings.{Settings}
 use Rattle.protocol.specs.declared.Receiver.{Receiver}
 use Rattle.protocol.specs.Lengths.{message_len, frame_len, receiver_len}
-use Rattle.protocol.specs.declared.Answer.TheVariants as answer
 use Rattle.protocol.specs.Calls.{OpenedReceiver, open_receiver_of, Reported, message_due, loss_of, heard_of}
 use Rattle.lines.specs.Text.{stop_line, line_of}
 use Rattle.frames.specs.Fields.{settings_in, slot_in}
@@ -39,8 +38,8 @@ unfoldable pub played : List (List ℕ) → Rest
 played [] x rows message = []
 played (frame ∷ frames) x rows message =
     elim (frame_stop x frame) [
-      | answer.Refused c ↦ stop_line c
-      | answer.Accepted ↦
+      | Err c ↦ stop_line c
+      | Ok tt ↦
           skipped (slot_in frame - x.due) (λ y rows' message'. and_then y (heard_of y rows' frame message') (played frames)) x rows message
     ]
 
@@ -56,7 +55,7 @@ transcript recording =
     elim (eqb (length recording) 0) [
       | true ↦ []
       | false ↦ elim (recording_cause recording) [
-        | answer.Refused c ↦ stop_line c
-        | answer.Accepted ↦ played_from (settings_in recording) recording
+        | Err c ↦ stop_line c
+        | Ok tt ↦ played_from (settings_in recording) recording
       ]
     ]

@@ -1,8 +1,7 @@
 -- A refused report, after which nothing is played.
-use Rattle.std.specs.Prelude.{Bool, not}
-use Rattle.protocol.specs.declared.Reply.{Reply}
-use Rattle.protocol.specs.Claim.{accepts}
+use Rattle.std.specs.Prelude.{Bool, is_err}
+use Rattle.protocol.specs.Answers.{Reply}
 
 -- whether a report was refused
 abbrev pub refuses : Reply → Bool
-refuses r = not (accepts r)
+refuses = is_err

@@ -6,7 +6,6 @@ ghost use Rattle.protocol.specs.Calls.{message_due};
 ghost use Rattle.lines.specs.Text.{stop_line, line_of, written};
 ghost use Rattle.progress.specs.Refusal.{refuses};
 
-use ends::reply_taken;
 use lines::{write_line, write_stop};
 use protocol::{Cause, Receiver};
 use receiver::Reported;
@@ -73,6 +72,6 @@ pub fn told(x: Receiver, offset: usize, r: Reported, message: &[u8], line: &mut 
             offset: offset,
         },
         len: len,
-        over: !reply_taken(reply),
+        over: reply.is_err(),
     }
 }

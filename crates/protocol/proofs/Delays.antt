@@ -1,4 +1,5 @@
 -- T as set, and the smaller of T and W - 1 in its place: `delays`, whose statement is `Delays` of specs/Delay.antt.
+use Rattle.std.specs.Prelude.{Err}
 use mathlib.Core.Path.{◌≡◌, refl, sym, subst, subst⁻¹}
 use mathlib.Core.Logic.{◌↔◌}
 use mathlib.Core.List.{List, ◌++◌}
@@ -12,7 +13,6 @@ use Rattle.code.specs.Settings.{accepted, delay_of, k_of, n_of, d_of}
 use Rattle.code.specs.Matrix.{spread, entry}
 use Rattle.code.proofs.Shape.{each, from_each, shape}
 use Rattle.protocol.specs.declared.Cause.TheVariants.{OtherSettings}
-use Rattle.protocol.specs.declared.Answer.TheVariants as answer
 use Rattle.protocol.specs.Lengths.{message_len, body_len, frame_len, sender_len, row_len, row_count, receiver_len}
 use Rattle.protocol.specs.Frame.{mark, five, slot_bytes, header}
 use Rattle.protocol.specs.Causes.{agree, header_cause}
@@ -70,7 +70,7 @@ as_before s t =
 -- ---- what a header says
 
 other_delay : (version : ℕ) (s other : Settings) (t : ℕ) (body : List ℕ) → (s.delay ≡ other.delay → ⊥)
-    → header_cause version s (header version other t ++ body) ≡ answer.Refused OtherSettings
+    → header_cause version s (header version other t ++ body) ≡ Err OtherSettings
 unfolding header_cause agree header mark five slot_bytes
 other_delay version s other t body differ =
     let frame : List ℕ = header version other t ++ body in

@@ -1,4 +1,5 @@
 -- Demand 3, proved of any list of sends and any list of reports: `demand3`, whose statement is `Demand3` of specs/Claim.antt.
+use Rattle.std.specs.Prelude.{Ok}
 use mathlib.Core.Path.{◌≡◌, refl, sym, ap, ◌∙◌, subst, subst⁻¹}
 use mathlib.Core.Bool.{Bool, true, false, not}
 use mathlib.Core.Logic.{⊎_elim}
@@ -15,7 +16,7 @@ use Rattle.code.specs.Word.{symbol}
 use Rattle.code.proofs.Shape.{Shape, shape}
 use Rattle.repair.specs.Fair.{Fair, lost_position}
 use Rattle.repair.proofs.Window.{not_all_lost}
-use Rattle.protocol.specs.declared.Reply.TheVariants as reply
+use Rattle.protocol.specs.declared.Told.TheVariants.{Whole}
 use Rattle.protocol.specs.Lengths.{message_len}
 use Rattle.protocol.specs.Codewords.{source}
 use Rattle.protocol.specs.Verdict.{arrived}
@@ -105,7 +106,7 @@ module _ (s : Settings) (ok : T (accepted s)) (calls : List Send) (bytes : (c : 
         sent_before s calls t τ m f a from
 
     -- whole, as sent
-    on_time : (message : List ℕ) × (frame : List ℕ) × SentAs sent t message frame × (r.after.reply ≡ reply.Whole)
+    on_time : (message : List ℕ) × (frame : List ℕ) × SentAs sent t message frame × (r.after.reply ≡ Ok Whole)
         × (r.after.message ≡ message)
     on_time =
         let (message, frame, a) = was_sent in

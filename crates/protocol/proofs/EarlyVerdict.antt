@@ -1,5 +1,6 @@
 -- A message may be told before its last slot is reported. What arrived by then is part of what arrived later, so a message that is
 -- whole stays whole with the same bytes, as long as some word fits.
+use Rattle.std.specs.Prelude.{Ok}
 use mathlib.Core.Path.{◌≡◌, refl, sym, ◌∙◌}
 use mathlib.Core.Bool.{Bool}
 use mathlib.Core.List.{List}
@@ -12,7 +13,7 @@ use Rattle.code.specs.declared.settings.Settings.{Settings}
 use Rattle.code.specs.Settings.{delay_of, k_of}
 use Rattle.code.specs.Fitting.{Arrived}
 use Rattle.elimination.proofs.ValueLaws.{Part, fits_part}
-use Rattle.protocol.specs.declared.Reply.TheVariants as reply
+use Rattle.protocol.specs.declared.Told.TheVariants.{Whole}
 use Rattle.protocol.specs.Verdict.{row_at, reported_at, arrived, verdict, buffer_of}
 use Rattle.protocol.specs.TwoLists.{ReportMade}
 use Rattle.protocol.specs.Meaning.{Fitting, Share, AllShare}
@@ -54,8 +55,8 @@ module _ {s : Settings} {first : ℕ → List ℕ} {d : ℕ} {told : List Report
 
   -- so whole stays whole, with the same bytes, where some word still fits each codeword
   pub whole_stays : 0 < s.lanes → ((i v : ℕ) → i < k_of s → v < s.lanes → (u : ℕ → ℕ) × Fitting s (arrived s rows' due' t i v) u)
-      → verdict s rows due t ≡ reply.Whole
-      → (verdict s rows' due' t ≡ reply.Whole)
+      → verdict s rows due t ≡ Ok Whole
+      → (verdict s rows' due' t ≡ Ok Whole)
       × (buffer_of s rows' due' t (verdict s rows' due' t) ≡ buffer_of s rows due t (verdict s rows due t))
   whole_stays some fitting whole =
       let out : List ℕ = buffer_of s rows due t (verdict s rows due t) in

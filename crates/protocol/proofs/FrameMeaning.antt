@@ -1,4 +1,5 @@
 -- Demand 2, the sender: `demand2_frame`, whose statement is `Demand2Frame` of specs/Meaning.antt.
+use Rattle.std.specs.Prelude.{Ok}
 use mathlib.Core.Path.{◌≡◌, refl, sym, ◌∙◌, subst⁻¹}
 use mathlib.Core.List.{List, Memᴰ}
 use Prim.Native.Nat.{ℕ, ◌+◌, ◌-◌, ◌*◌, ◌%◌, ◌≤◌, ◌<◌}
@@ -13,7 +14,6 @@ use Rattle.code.specs.Word.{word_at, symbol}
 use Rattle.code.proofs.Shape.{Shape, shape}
 use Rattle.code.proofs.Symbols.{multiplier_below, symbol_source, symbol_equal, symbol_of_word}
 use Rattle.protocol.specs.declared.Sender.{Sender}
-use Rattle.protocol.specs.declared.Answer.TheVariants as answer
 use Rattle.protocol.specs.Lengths.{message_len}
 use Rattle.protocol.specs.Frame.{remembered, sent_symbol}
 use Rattle.protocol.specs.Codewords.{source}
@@ -73,7 +73,7 @@ taken_send_lem x rows message ok =
           (symbol_shared s h (λ i. remembered s rows t (p - i) i v) (remembered_byte s rows message t bytes p v) p);
     }
 
-by_rows : (x : Sender) (rows message frame : List ℕ) → (send_of x rows message frame).answer ≡ answer.Accepted
+by_rows : (x : Sender) (rows message frame : List ℕ) → (send_of x rows message frame).answer ≡ Ok tt
     → AcceptedSend x.settings x.due rows message (send_of x rows message frame)
 by_rows x rows message frame e =
     let taken = taken_case x rows message frame e in
@@ -100,7 +100,7 @@ by_messages s ok calls bytes t message frame a =
 pub demand2_frame : Demand2Frame
 demand2_frame = record {
   by_rows = λ x rows message frame n.
-      by_rows x rows message frame (answer_tells (send_of x rows message frame).answer answer.Accepted n);
+      by_rows x rows message frame (answer_tells (send_of x rows message frame).answer (Ok tt) n);
   by_messages = λ s ok rows exact calls bytes.
       subst⁻¹
       (λ (sent : List SendMade).

@@ -7,6 +7,7 @@ pub mod NumberLaws
 pub mod Refusals
 pub mod TrueWords
 pub mod CauseTables
+pub mod QuestionMark
 pub mod Sending
 pub mod Along
 pub mod Slots

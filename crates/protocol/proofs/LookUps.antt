@@ -1,5 +1,6 @@
 -- Document 02 §6: when a look-up meets no cause, and what it tells then: `look_up_tells`, whose statement is `LookUpTells` of
 -- specs/Meaning.antt.
+use Rattle.std.specs.Prelude.{Ok, Err}
 use mathlib.Core.Path.{◌≡◌, refl, sym, ap₂, ◌∙◌, subst, subst⁻¹}
 use mathlib.Core.Bool.{Bool, true, false, true≢false, ◌||◌}
 use mathlib.Core.Logic.{⊎_elim}
@@ -18,10 +19,7 @@ use Rattle.code.specs.Settings.{accepted, delay_of}
 use Rattle.protocol.specs.declared.Receiver.{Receiver}
 use Rattle.protocol.specs.declared.Cause.{Cause}
 use Rattle.protocol.specs.declared.Cause.TheVariants.{BadSettings, BadLength, PastLastSlot, OutOfReach}
-use Rattle.protocol.specs.declared.Answer.{Answer}
-use Rattle.protocol.specs.declared.Answer.TheVariants as answer
-use Rattle.protocol.specs.declared.Reply.{Reply}
-use Rattle.protocol.specs.declared.Reply.TheVariants as reply
+use Rattle.protocol.specs.Answers.{Answer, Reply}
 use Rattle.protocol.specs.Lengths.{last_slot, receiver_len, exactly}
 use Rattle.protocol.specs.Verdict.{verdict}
 use Rattle.protocol.specs.Causes.{too_old, too_new, out_of_reach, look_up_table, look_up_cause}
@@ -86,7 +84,7 @@ module _ (x : Receiver) (rows : List ℕ) (number : ℤ) (message : List ℕ) wh
   s = x.settings
 
   -- where it meets none, a loss report would meet none either, and the message is in reach
-  pub look_up_open : look_up_cause x rows number message ≡ answer.Accepted → LossOpen x rows message × (t : ℕ) × InReach s x.due number t
+  pub look_up_open : look_up_cause x rows number message ≡ Ok tt → LossOpen x rows message × (t : ℕ) × InReach s x.due number t
   unfolding look_up_cause
   look_up_open e =
       let none = none_holds (look_up_table x rows number message) e in
@@ -104,7 +102,7 @@ module _ (x : Receiver) (rows : List ℕ) (number : ℤ) (message : List ℕ) wh
       )
 
   -- and else it meets none
-  pub look_up_clear : LossOpen x rows message → out_of_reach s x.due number ≡ false → look_up_cause x rows number message ≡ answer.Accepted
+  pub look_up_clear : LossOpen x rows message → out_of_reach s x.due number ≡ false → look_up_cause x rows number message ≡ Ok tt
   unfolding look_up_cause
   look_up_clear h within =
       rw (
@@ -116,24 +114,24 @@ module _ (x : Receiver) (rows : List ℕ) (number : ℤ) (message : List ℕ) wh
       )
 
   -- a cause that is found refuses it
-  pub look_up_stays : (c : Cause) → look_up_cause x rows number message ≡ answer.Refused c
-      → look_up_of x rows number message ≡ record { reply = reply.Refused c; message = message }
+  pub look_up_stays : (c : Cause) → look_up_cause x rows number message ≡ Err c
+      → look_up_of x rows number message ≡ record { reply = Err c; message = message }
   unfolding look_up_of
   look_up_stays c e = rw (e, look_up_of)
 
   -- and else it tells by the slots below the slot due
-  pub look_up_told : (t : ℕ) → number ≡ pos t → look_up_cause x rows number message ≡ answer.Accepted
+  pub look_up_told : (t : ℕ) → number ≡ pos t → look_up_cause x rows number message ≡ Ok tt
       → look_up_of x rows number message ≡ tell_of s rows x.due t
   unfolding look_up_of
   look_up_told t same e = rw (e, look_up_of, same) (ap₂ (tell_of s rows) (omega arith) (omega arith))
 
   -- so one that was not refused met none
-  pub look_up_uncaused : T (accepts (look_up_of x rows number message).reply) → look_up_cause x rows number message ≡ answer.Accepted
+  pub look_up_uncaused : T (accepts (look_up_of x rows number message).reply) → look_up_cause x rows number message ≡ Ok tt
   look_up_uncaused ok = go (look_up_cause x rows number message) refl
     where
-      go : (f : Answer) → look_up_cause x rows number message ≡ f → look_up_cause x rows number message ≡ answer.Accepted
-      go answer.Accepted e = e
-      go (answer.Refused c) e = absurd (subst (λ (r : Looked). T (accepts r.reply)) (look_up_stays c e) ok)
+      go : (f : Answer) → look_up_cause x rows number message ≡ f → look_up_cause x rows number message ≡ Ok tt
+      go (Ok tt) e = e
+      go (Err c) e = absurd (subst (λ (r : Looked). T (accepts r.reply)) (look_up_stays c e) ok)
 
 -- ---- what it tells
 

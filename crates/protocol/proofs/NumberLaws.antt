@@ -1,4 +1,5 @@
 -- A number tells its case: `numbers_tell`, whose statement is `NumbersTell` of specs/Numbers.antt.
+use Rattle.std.specs.Prelude.{Ok, Err}
 use mathlib.Core.Path.{◌≡◌, refl, sym, ap, ◌∙◌}
 use mathlib.Core.Bool.{cond}
 use mathlib.Core.Logic.{◌≢◌}
@@ -7,10 +8,8 @@ use Prim.Native.Nat.{ℕ}
 use lib.Dec.{eqb}
 use Rattle.protocol.specs.declared.Cause.{Cause}
 use Rattle.protocol.specs.declared.Cause.TheVariants.{BadSettings, BadLength, PastLastSlot, OtherMark, OtherSettings, OtherSlot, LateOpening, OutOfReach}
-use Rattle.protocol.specs.declared.Answer.{Answer}
-use Rattle.protocol.specs.declared.Answer.TheVariants as answer
-use Rattle.protocol.specs.declared.Reply.{Reply}
-use Rattle.protocol.specs.declared.Reply.TheVariants as reply
+use Rattle.protocol.specs.Answers.{Answer, Reply}
+use Rattle.protocol.specs.declared.Told.TheVariants.{NoneYet, Whole, Lost, Clash}
 use Rattle.protocol.specs.Causes.{number_of}
 use Rattle.protocol.specs.Numbers.{answer_number, reply_number, NumbersTell}
 
@@ -25,12 +24,12 @@ cause_of n =
     (cond (eqb n 5) OtherSettings (cond (eqb n 6) OtherSlot (cond (eqb n 7) LateOpening OutOfReach))))))
 
 unfoldable answer_of : ℕ → Answer
-answer_of n = cond (eqb n 0) answer.Accepted (answer.Refused (cause_of n))
+answer_of n = cond (eqb n 0) (Ok tt) (Err (cause_of n))
 
 unfoldable reply_of : ℕ → Reply
 reply_of n =
-    cond (eqb n 16) reply.NoneYet
-    (cond (eqb n 17) reply.Whole (cond (eqb n 18) reply.Lost (cond (eqb n 19) reply.Clash (reply.Refused (cause_of n)))))
+    cond (eqb n 16) (Ok NoneYet)
+    (cond (eqb n 17) (Ok Whole) (cond (eqb n 18) (Ok Lost) (cond (eqb n 19) (Ok Clash) (Err (cause_of n)))))
 
 -- ---- and back
 
@@ -52,16 +51,16 @@ cause_back = each (λ c. cause_of (number_of c) ≡ c) refl refl refl refl refl 
 
 answer_back : (a : Answer) → answer_of (answer_number a) ≡ a
 unfolding answer_of cause_of
-answer_back answer.Accepted = refl
-answer_back (answer.Refused c) = each (λ c. answer_of (number_of c) ≡ answer.Refused c) refl refl refl refl refl refl refl refl c
+answer_back (Ok tt) = refl
+answer_back (Err c) = each (λ c. answer_of (number_of c) ≡ Err c) refl refl refl refl refl refl refl refl c
 
 reply_back : (r : Reply) → reply_of (reply_number r) ≡ r
 unfolding reply_of cause_of
-reply_back (reply.Refused c) = each (λ c. reply_of (number_of c) ≡ reply.Refused c) refl refl refl refl refl refl refl refl c
-reply_back reply.NoneYet = refl
-reply_back reply.Whole = refl
-reply_back reply.Lost = refl
-reply_back reply.Clash = refl
+reply_back (Err c) = each (λ c. reply_of (number_of c) ≡ Err c) refl refl refl refl refl refl refl refl c
+reply_back (Ok NoneYet) = refl
+reply_back (Ok Whole) = refl
+reply_back (Ok Lost) = refl
+reply_back (Ok Clash) = refl
 
 -- ---- so a number tells its case
 
@@ -78,7 +77,7 @@ pub numbers_tell : NumbersTell
 numbers_tell = record { causes = number_tells; answers = answer_tells; replies = reply_tells }
 
 -- and an accepted call's is no cause's
-pub accepted_number : (c : Cause) → answer_number answer.Accepted ≢ number_of c
+pub accepted_number : (c : Cause) → answer_number (Ok tt) ≢ number_of c
 accepted_number c e =
-    let same : answer.Accepted ≡ answer.Refused c = answer_tells answer.Accepted (answer.Refused c) e in
+    let same : (Ok tt) ≡ Err c = answer_tells (Ok tt) (Err c) e in
     let z : ◌≡◌ {A = ℕ} 0 1 = cc in omega arith

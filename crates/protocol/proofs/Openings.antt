@@ -1,4 +1,5 @@
 -- An opening at any slot, and document 01's: `openings`, whose statement is `Openings` of specs/Opening.antt.
+use Rattle.std.specs.Prelude.{Ok, Err}
 use mathlib.Core.Path.{◌≡◌, refl, ◌∙◌}
 use mathlib.Core.List.{List}
 use Prim.Native.Nat.{ℕ, ◌+◌, ◌≤◌, ◌<◌, zero-le}
@@ -8,8 +9,7 @@ use lib.ListN.{length}
 use borrow.Author.Tests.{le-ltb}
 use Rattle.code.specs.declared.settings.Settings.{Settings}
 use Rattle.code.specs.Settings.{accepted, delay_of}
-use Rattle.protocol.specs.declared.Answer.{Answer}
-use Rattle.protocol.specs.declared.Answer.TheVariants as answer
+use Rattle.protocol.specs.Answers.{Answer}
 use Rattle.protocol.specs.Lengths.{last_slot, row_count, receiver_len}
 use Rattle.protocol.specs.Rows.{joined}
 use Rattle.protocol.specs.Causes.{open_cause, open_receiver_cause}
@@ -37,8 +37,8 @@ start_cause s rows = refl
 
 from_start : (s : Settings) (rows : List ℕ) (a : Answer) → open_cause s (receiver_len s) rows ≡ a → open_receiver_of s 0 rows ≡ open_from_start s rows
 unfolding open_receiver_of open_from_start
-from_start s rows answer.Accepted e = rw (start_cause s rows ∙ e, e, open_receiver_of, open_from_start, start_rows s)
-from_start s rows (answer.Refused c) e = rw (start_cause s rows ∙ e, e, open_receiver_of, open_from_start)
+from_start s rows (Ok tt) e = rw (start_cause s rows ∙ e, e, open_receiver_of, open_from_start, start_rows s)
+from_start s rows (Err c) e = rw (start_cause s rows ∙ e, e, open_receiver_of, open_from_start)
 
 -- ---- the first report
 

@@ -1,5 +1,6 @@
 -- The receiver's replies through elimination, so that the card's figures can be computed: the same replies and message buffers
 -- as the definitions give, which try all words.
+use Rattle.std.specs.Prelude.{Ok, Err}
 use mathlib.Core.Path.{◌≡◌, refl, sym, ap, ap₂, ◌∙◌}
 use mathlib.Core.Bool.{Bool, true, false, cond, ◌&&◌}
 use mathlib.Core.List.{List, [], ◌∷◌, ◌++◌}
@@ -19,15 +20,13 @@ use Rattle.elimination.specs.declared.lane.Symbol.{Symbol}
 use Rattle.elimination.specs.Elimination.{eliminated, symbol_of}
 use Rattle.elimination.proofs.LaneDecided.{symbol_decided}
 use Rattle.protocol.specs.declared.Receiver.{Receiver}
-use Rattle.protocol.specs.declared.Reply.{Reply}
-use Rattle.protocol.specs.declared.Reply.TheVariants as reply
+use Rattle.protocol.specs.Answers.{Answer, Reply}
+use Rattle.protocol.specs.declared.Told.TheVariants.{NoneYet, Whole, Lost, Clash}
 use Rattle.protocol.specs.Lengths.{message_len, row_len, row_count}
 use Rattle.protocol.specs.States.{reported_on}
 use Rattle.protocol.specs.Rows.{put_row}
 use Rattle.protocol.specs.Verdict.{arrived, symbol_said, is_clash, is_lost, whole_byte, some_codeword}
 use Rattle.protocol.specs.Verdict.{by_tests, verdict_by, buffer_by, none_fits, two_differ, verdict, buffer_of}
-use Rattle.protocol.specs.declared.Answer.{Answer}
-use Rattle.protocol.specs.declared.Answer.TheVariants as answer
 use Rattle.protocol.specs.Causes.{loss_cause, frame_cause}
 use Rattle.protocol.specs.Calls.{Reported, message_due, moved_on, loss_of, heard_of}
 use Rattle.protocol.specs.TwoLists.{Report, heard, missed, report_of, ReportMade, reports}
@@ -44,7 +43,7 @@ quick_symbol s rows due t i v =
 -- the reply of the report that makes these the rows, with slot d due before it
 unfoldable pub quick_reply : Settings → List ℕ → ℕ → Reply
 quick_reply s now d =
-    elim (ltb d (delay_of s)) [ true ↦ reply.NoneYet | false ↦ verdict_by s (quick_symbol s now (d + 1) (message_due s d)) ]
+    elim (ltb d (delay_of s)) [ true ↦ Ok NoneYet | false ↦ verdict_by s (quick_symbol s now (d + 1) (message_due s d)) ]
 
 -- an accepted report
 unfoldable pub quick_moved : Receiver → List ℕ → List ℕ → Reported
@@ -63,13 +62,13 @@ quick_moved x row rows =
 unfoldable pub quick_report : Receiver → List ℕ → Report → Reported
 quick_report x rows (heard frame message) =
     elim (frame_cause x rows frame message) [
-      | answer.Accepted ↦ quick_moved x (1 ∷ drop 14 frame) rows
-      | answer.Refused c ↦ refusal c x rows message
+      | Ok tt ↦ quick_moved x (1 ∷ drop 14 frame) rows
+      | Err c ↦ refusal c x rows message
     ]
 quick_report x rows (missed message) =
     elim (loss_cause x rows message) [
-      | answer.Accepted ↦ quick_moved x (replicate (row_len x.settings) 0) rows
-      | answer.Refused c ↦ refusal c x rows message
+      | Ok tt ↦ quick_moved x (replicate (row_len x.settings) 0) rows
+      | Err c ↦ refusal c x rows message
     ]
 
 -- the reports of a list of calls
@@ -168,24 +167,24 @@ module _ (s : Settings) (ok : T (accepted s)) (rows : List ℕ) (bytes : T (smal
   -- and so is the message buffer
   pub quick_buffer : (r : Reply) → buffer_of s rows due t r ≡ buffer_by s quickly r
   unfolding buffer_of message_len
-  quick_buffer (reply.Refused c) = refl
-  quick_buffer reply.NoneYet = refl
-  quick_buffer reply.Whole =
+  quick_buffer (Err c) = refl
+  quick_buffer (Ok NoneYet) = refl
+  quick_buffer (Ok Whole) =
       let byte : (ℕ → ℕ → Symbol) → ℕ → ℕ = λ f q. whole_byte (f (q / s.lanes) (q % s.lanes)) in
       table_equal (message_len s) (byte told) (byte quickly)
       (λ q hq. ap whole_byte (quick_symbol_lem (q / s.lanes) (q % s.lanes) ((div-lt_iff_lt-mul (shape s ok).lanes_positive).1 hq)))
-  quick_buffer reply.Lost = refl
-  quick_buffer reply.Clash = refl
+  quick_buffer (Ok Lost) = refl
+  quick_buffer (Ok Clash) = refl
 
 -- the reply of a report
 quick_reply_lem : (s : Settings) → T (accepted s) → (now : List ℕ) → T (small now) → (d : ℕ)
-    → cond (ltb d (delay_of s)) reply.NoneYet (verdict s now (d + 1) (message_due s d)) ≡ quick_reply s now d
+    → cond (ltb d (delay_of s)) (Ok NoneYet) (verdict s now (d + 1) (message_due s d)) ≡ quick_reply s now d
 unfolding quick_reply
 quick_reply_lem s ok now h d =
-    ap (cond (ltb d (delay_of s)) reply.NoneYet) (quick_verdict s ok now h (d + 1) (message_due s d))
+    ap (cond (ltb d (delay_of s)) (Ok NoneYet)) (quick_verdict s ok now h (d + 1) (message_due s d))
     ∙ chosen (ltb d (delay_of s)) (verdict_by s (quick_symbol s now (d + 1) (message_due s d)))
   where
-    chosen : (b : Bool) (r : Reply) → cond b reply.NoneYet r ≡ elim b [ true ↦ reply.NoneYet | false ↦ r ]
+    chosen : (b : Bool) (r : Reply) → cond b (Ok NoneYet) r ≡ elim b [ true ↦ Ok NoneYet | false ↦ r ]
     chosen true r = refl
     chosen false r = refl
 
@@ -214,22 +213,22 @@ Kept r = T (accepted r.receiver.settings) × T (small r.rows)
 module _ (x : Receiver) (ok : T (accepted x.settings)) (rows : List ℕ) (hs : T (small rows)) where
   -- where no cause is found a report moves on, else it is refused
   abbrev slow : Answer → List ℕ → List ℕ → Reported
-  slow found row message = elim found [ answer.Accepted ↦ moved_on x row rows | answer.Refused c ↦ refusal c x rows message ]
+  slow found row message = elim found [ Ok tt ↦ moved_on x row rows | Err c ↦ refusal c x rows message ]
 
   -- the same by quick_moved
   abbrev quick : Answer → List ℕ → List ℕ → Reported
-  quick found row message = elim found [ answer.Accepted ↦ quick_moved x row rows | answer.Refused c ↦ refusal c x rows message ]
+  quick found row message = elim found [ Ok tt ↦ quick_moved x row rows | Err c ↦ refusal c x rows message ]
 
   -- both come to the same
   slow_quick : (row message : List ℕ) → T (small row) → (found : Answer) → slow found row message ≡ quick found row message
-  slow_quick row message h answer.Accepted = quick_moved_lem x ok row rows h hs
-  slow_quick row message h (answer.Refused c) = refl
+  slow_quick row message h (Ok tt) = quick_moved_lem x ok row rows h hs
+  slow_quick row message h (Err c) = refl
 
   -- the settings stay accepted, and the rows bytes
   quick_kept : (row message : List ℕ) → T (small row) → (found : Answer) → Kept (quick found row message)
   unfolding quick_moved
-  quick_kept row message h answer.Accepted = (ok, small_put (row_len x.settings) (x.due % row_count x.settings) row rows h hs)
-  quick_kept row message h (answer.Refused c) = (ok, hs)
+  quick_kept row message h (Ok tt) = (ok, small_put (row_len x.settings) (x.due % row_count x.settings) row rows h hs)
+  quick_kept row message h (Err c) = (ok, hs)
 
   -- a report comes to the same, and leaves what the next one needs
   pub quick_report_lem : (c : Report) → T (small_frames (c ∷ []))

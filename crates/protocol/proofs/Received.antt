@@ -11,7 +11,7 @@ use borrow.Author.Tests.{le-ltb}
 use Rattle.code.specs.declared.settings.Settings.{Settings}
 use Rattle.code.specs.Settings.{delay_of}
 use Rattle.protocol.specs.declared.Receiver.{Receiver}
-use Rattle.protocol.specs.declared.Reply.{Reply}
+use Rattle.protocol.specs.Answers.{Reply}
 use Rattle.protocol.specs.Lengths.{last_slot, message_len, frame_len, receiver_len}
 use Rattle.protocol.specs.Frame.{header}
 use Rattle.protocol.specs.Verdict.{verdict, buffer_of}

@@ -1,4 +1,5 @@
 -- From rows that tell the truth to a message that is whole: under fair losses each codeword's fitting words agree with the true one.
+use Rattle.std.specs.Prelude.{Ok}
 use mathlib.Core.Path.{◌≡◌, sym, ◌∙◌, subst}
 use mathlib.Core.Bool.{Bool, not}
 use mathlib.Core.List.{List}
@@ -14,7 +15,7 @@ use Rattle.code.proofs.Shape.{Shape}
 use Rattle.code.proofs.Symbols.{multiplier_below}
 use Rattle.repair.specs.Fair.{Fair, lost_position}
 use Rattle.repair.proofs.Window.{window_fits}
-use Rattle.protocol.specs.declared.Reply.TheVariants as reply
+use Rattle.protocol.specs.declared.Told.TheVariants.{Whole}
 use Rattle.protocol.specs.Lengths.{message_len}
 use Rattle.protocol.specs.Codewords.{source}
 use Rattle.protocol.specs.Verdict.{arrived, verdict, buffer_of}
@@ -62,12 +63,12 @@ module _ (s : Settings) (h : Shape s) (rows : List ℕ) (due t : ℕ) (messages 
     }
 
   -- so the verdict is whole
-  pub recovered : Fair s lost (t + 1 - k_of s) (t + delay_of s) → t + delay_of s < due → verdict s rows due t ≡ reply.Whole
+  pub recovered : Fair s lost (t + 1 - k_of s) (t + delay_of s) → t + delay_of s < due → verdict s rows due t ≡ Ok Whole
   recovered fair all =
       shares_whole s rows due t (λ i v. get_or (messages t) (i * s.lanes + v) 0) (λ i v hi hv. shares i v hi hv fair all)
 
   -- and whenever it is, the buffer holds the message
-  pub whole_message : verdict s rows due t ≡ reply.Whole → length (messages t) ≡ message_len s
+  pub whole_message : verdict s rows due t ≡ Ok Whole → length (messages t) ≡ message_len s
       → buffer_of s rows due t (verdict s rows due t) ≡ messages t
   whole_message whole full =
       whole_list s rows due t h.lanes_positive (messages t) full

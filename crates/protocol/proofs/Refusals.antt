@@ -1,4 +1,5 @@
 -- Demand 1, proved of every call: `demand1`, whose statement is `Demand1` of specs/Refusals.antt.
+use Rattle.std.specs.Prelude.{Ok, Err}
 use mathlib.Core.Path.{◌≡◌, refl, sym, ap, ◌∙◌, subst, subst⁻¹}
 use mathlib.Core.Bool.{Bool, true, false}
 use mathlib.Core.Logic.{◌↔◌, ◌≢◌}
@@ -11,10 +12,7 @@ use Rattle.code.specs.declared.settings.Settings.{Settings}
 use Rattle.protocol.specs.declared.Sender.{Sender}
 use Rattle.protocol.specs.declared.Receiver.{Receiver}
 use Rattle.protocol.specs.declared.Cause.{Cause}
-use Rattle.protocol.specs.declared.Answer.{Answer}
-use Rattle.protocol.specs.declared.Answer.TheVariants as answer
-use Rattle.protocol.specs.declared.Reply.{Reply}
-use Rattle.protocol.specs.declared.Reply.TheVariants as reply
+use Rattle.protocol.specs.Answers.{Answer, Reply}
 use Rattle.protocol.specs.Lengths.{sender_len}
 use Rattle.protocol.specs.States.{no_sender, no_receiver}
 use Rattle.protocol.specs.Causes.{number_of, check, Row, first_of}
@@ -32,24 +30,24 @@ use Rattle.protocol.proofs.ReportRows.{verdict_accepts, moved_accepts}
 
 -- ---- a table read from the top finds c exactly if c is the first that holds
 
-pub found_first : (c : Cause) (rs : List Row) → first_of rs ≡ answer.Refused c → First c rs
+pub found_first : (c : Cause) (rs : List Row) → first_of rs ≡ Err c → First c rs
 found_first c [] e = let z : ◌≡◌ {A = ℕ} 0 1 = cc in absurd (omega arith)
 found_first c (r ∷ rs) e = go (found_first c rs) r.holds refl e
   where
-    go : (first_of rs ≡ answer.Refused c → First c rs) → (b : Bool) → r.holds ≡ b → check b r.why (first_of rs) ≡ answer.Refused c → First c (r ∷ rs)
+    go : (first_of rs ≡ Err c → First c rs) → (b : Bool) → r.holds ≡ b → check b r.why (first_of rs) ≡ Err c → First c (r ∷ rs)
     go rest true h e = let why : r.why ≡ c = cc in here (subst⁻¹ T h tt) why
     go rest false h e = later (λ t. subst T h t) (rest e)
 
-pub first_found : (c : Cause) (rs : List Row) → First c rs → first_of rs ≡ answer.Refused c
+pub first_found : (c : Cause) (rs : List Row) → First c rs → first_of rs ≡ Err c
 first_found c [] x' = elim x' [ ]
 first_found c (r ∷ rs) (here h e) = go r.holds h
   where
-    go : (b : Bool) → T b → check b r.why (first_of rs) ≡ answer.Refused c
-    go true h = ap answer.Refused e
+    go : (b : Bool) → T b → check b r.why (first_of rs) ≡ Err c
+    go true h = ap Err e
     go false h = absurd h
 first_found c (r ∷ rs) (later n f) = go r.holds n (first_found c rs f)
   where
-    go : (b : Bool) → (T b → ⊥) → first_of rs ≡ answer.Refused c → check b r.why (first_of rs) ≡ answer.Refused c
+    go : (b : Bool) → (T b → ⊥) → first_of rs ≡ Err c → check b r.why (first_of rs) ≡ Err c
     go true n e = absurd (n tt)
     go false n e = e
 
@@ -58,13 +56,13 @@ first_found c (r ∷ rs) (later n f) = go r.holds n (first_found c rs f)
 module _ {R : Type 0} (number : R → ℕ) (refusal : Cause → R) (r : R) where
   -- accepted, its number is no cause's; refused for a cause, it is that refusal
   abbrev pub Comes : Answer → Type 0
-  Comes answer.Accepted = (c : Cause) → number r ≢ number_of c
-  Comes (answer.Refused c) = r ≡ refusal c
+  Comes (Ok tt) = (c : Cause) → number r ≢ number_of c
+  Comes (Err c) = r ≡ refusal c
 
   module _ (says : (c : Cause) → number (refusal c) ≡ number_of c) where
-    told : (c : Cause) (a : Answer) → Comes a → number r ≡ number_of c → a ≡ answer.Refused c
-    told c answer.Accepted none e = absurd (none c e)
-    told c (answer.Refused d) is e = ap answer.Refused (number_tells d c (sym (says d) ∙ ap number (sym is) ∙ e))
+    told : (c : Cause) (a : Answer) → Comes a → number r ≡ number_of c → a ≡ Err c
+    told c (Ok tt) none e = absurd (none c e)
+    told c (Err d) is e = ap Err (number_tells d c (sym (says d) ∙ ap number (sym is) ∙ e))
 
     -- so its number is a cause's exactly if that cause is the first of the table that holds
     pub number_first : (rs : List Row) → Comes (first_of rs) → (c : Cause) → (number r ≡ number_of c) ↔ First c rs
@@ -85,46 +83,46 @@ module _ {R : Type 0} (number : R → ℕ) (refusal : Cause → R) (r : R) where
 -- ---- the openings
 
 abbrev no_sender_for : List ℕ → Cause → OpenedSender
-no_sender_for rows c = record { answer = answer.Refused c; sender = no_sender; rows = rows }
+no_sender_for rows c = record { answer = Err c; sender = no_sender; rows = rows }
 
 abbrev no_receiver_for : List ℕ → Cause → OpenedReceiver
-no_receiver_for rows c = record { answer = answer.Refused c; receiver = no_receiver; rows = rows }
+no_receiver_for rows c = record { answer = Err c; receiver = no_receiver; rows = rows }
 
 module _ (s : Settings) (rows : List ℕ) where
   sender_opens : (a : Answer) → open_cause s (sender_len s) rows ≡ a
       → Comes (λ (r : OpenedSender). answer_number r.answer) (no_sender_for rows) (open_sender_of s rows) a
   unfolding open_sender_of
-  sender_opens answer.Accepted e = rw (e, open_sender_of) accepted_number
-  sender_opens (answer.Refused c) e = rw (e, open_sender_of)
+  sender_opens (Ok tt) e = rw (e, open_sender_of) accepted_number
+  sender_opens (Err c) e = rw (e, open_sender_of)
 
   receiver_opens : (slot : ℕ) (a : Answer) → open_receiver_cause s slot rows ≡ a
       → Comes (λ (r : OpenedReceiver). answer_number r.answer) (no_receiver_for rows) (open_receiver_of s slot rows) a
   unfolding open_receiver_of
-  receiver_opens slot answer.Accepted e = rw (e, open_receiver_of) accepted_number
-  receiver_opens slot (answer.Refused c) e = rw (e, open_receiver_of)
+  receiver_opens slot (Ok tt) e = rw (e, open_receiver_of) accepted_number
+  receiver_opens slot (Err c) e = rw (e, open_receiver_of)
 
 -- ---- send
 
 abbrev unsent : Sender → List ℕ → List ℕ → Cause → Sent
-unsent x rows frame c = record { answer = answer.Refused c; sender = x; rows = rows; frame = frame }
+unsent x rows frame c = record { answer = Err c; sender = x; rows = rows; frame = frame }
 
 sends : (x : Sender) (rows message frame : List ℕ) (a : Answer) → send_cause x rows message frame ≡ a
     → Comes (λ (r : Sent). answer_number r.answer) (unsent x rows frame) (send_of x rows message frame) a
 unfolding send_of
-sends x rows message frame answer.Accepted e = rw (e, send_of) accepted_number
-sends x rows message frame (answer.Refused c) e = rw (e, send_of)
+sends x rows message frame (Ok tt) e = rw (e, send_of) accepted_number
+sends x rows message frame (Err c) e = rw (e, send_of)
 
 -- ---- reports
 
 abbrev unreported : Receiver → List ℕ → List ℕ → Cause → Reported
-unreported x rows message c = record { reply = reply.Refused c; receiver = x; rows = rows; message = message }
+unreported x rows message c = record { reply = Err c; receiver = x; rows = rows; message = message }
 
 abbrev Reports : Receiver → List ℕ → List ℕ → Reported → Answer → Type 0
 Reports x rows message = Comes (λ (r : Reported). reply_number r.reply) (unreported x rows message)
 
 -- the number of a reply that is no refusal is no cause's
 taken_number : (r : Reply) → T (accepts r) → (c : Cause) → reply_number r ≢ number_of c
-taken_number r ok c e = subst (λ (r : Reply). T (accepts r)) (reply_tells r (reply.Refused c) e) ok
+taken_number r ok c e = subst (λ (r : Reply). T (accepts r)) (reply_tells r (Err c) e) ok
 
 -- so is that of a report that moves the slot due on
 pub moved_number : (x : Receiver) (row rows : List ℕ) (c : Cause) → reply_number (moved_on x row rows).reply ≢ number_of c
@@ -137,14 +135,14 @@ told_number s rows due t = taken_number (verdict s rows due t) (verdict_accepts 
 
 loses : (x : Receiver) (rows message : List ℕ) (a : Answer) → loss_cause x rows message ≡ a → Reports x rows message (loss_of x rows message) a
 unfolding loss_of
-loses x rows message answer.Accepted e = rw (e, loss_of) (moved_number x _ rows)
-loses x rows message (answer.Refused c) e = rw (e, loss_of)
+loses x rows message (Ok tt) e = rw (e, loss_of) (moved_number x _ rows)
+loses x rows message (Err c) e = rw (e, loss_of)
 
 hears : (x : Receiver) (rows frame message : List ℕ) (a : Answer) → frame_cause x rows frame message ≡ a
     → Reports x rows message (heard_of x rows frame message) a
 unfolding heard_of
-hears x rows frame message answer.Accepted e = rw (e, heard_of) (moved_number x _ rows)
-hears x rows frame message (answer.Refused c) e = rw (e, heard_of)
+hears x rows frame message (Ok tt) e = rw (e, heard_of) (moved_number x _ rows)
+hears x rows frame message (Err c) e = rw (e, heard_of)
 
 report_stays : {x : Receiver} {rows message : List ℕ} {r : Reported} (c : Cause) → r ≡ unreported x rows message c
     → (r.receiver ≡ x) × (r.rows ≡ rows) × (r.message ≡ message)
@@ -153,13 +151,13 @@ report_stays c e = (ap (λ (r : Reported). r.receiver) e, ap (λ (r : Reported).
 -- ---- look-ups
 
 abbrev unlooked : List ℕ → Cause → Looked
-unlooked message c = record { reply = reply.Refused c; message = message }
+unlooked message c = record { reply = Err c; message = message }
 
 looks : (x : Receiver) (rows : List ℕ) (number : ℤ) (message : List ℕ) (a : Answer) → look_up_cause x rows number message ≡ a
     → Comes (λ (r : Looked). reply_number r.reply) (unlooked message) (look_up_of x rows number message) a
 unfolding look_up_of
-looks x rows number message answer.Accepted e = rw (e, look_up_of) (told_number x.settings rows _ _)
-looks x rows number message (answer.Refused c) e = rw (e, look_up_of)
+looks x rows number message (Ok tt) e = rw (e, look_up_of) (told_number x.settings rows _ _)
+looks x rows number message (Err c) e = rw (e, look_up_of)
 
 -- ---- demand 1
 

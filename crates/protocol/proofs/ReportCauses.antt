@@ -1,4 +1,5 @@
 -- When a report meets no cause.
+use Rattle.std.specs.Prelude.{Ok}
 use mathlib.Core.Path.{◌≡◌}
 use mathlib.Core.Bool.{Bool, not}
 use mathlib.Core.List.{List, [], ◌∷◌, ◌++◌}
@@ -12,7 +13,6 @@ use Rattle.protocol.specs.declared.Receiver.{Receiver}
 use Rattle.protocol.specs.declared.Cause.TheVariants.{OtherMark, OtherSettings, OtherSlot}
 use Rattle.protocol.specs.Lengths.{last_slot, message_len, body_len, frame_len, receiver_len, exactly, exactly_framed}
 use Rattle.protocol.specs.Frame.{mark, five, slot_bytes, header}
-use Rattle.protocol.specs.declared.Answer.TheVariants as answer
 use Rattle.protocol.specs.Causes.{Row, row, agree, header_table, slot_table, slot_cause, loss_cause, frame_cause_of}
 use Rattle.protocol.proofs.CauseTables.{none_holds, one_below, both_clear, passes, fails}
 use Rattle.protocol.proofs.CauseTables.{slot_open, slot_clear, exact_lengths, lengths_exact, framed_lengths, lengths_framed}
@@ -29,14 +29,14 @@ module _ (x : Receiver) (rows message : List ℕ) where
   abbrev exact : Bool
   exact = exactly x.settings (receiver_len x.settings) (length rows) (length message)
 
-  pub loss_open : loss_cause x rows message ≡ answer.Accepted → LossOpen
+  pub loss_open : loss_cause x rows message ≡ Ok tt → LossOpen
   unfolding loss_cause slot_cause
   loss_open e =
       let free = slot_open x.settings exact x.due e in
       let lengths = exact_lengths x.settings (receiver_len x.settings) (length rows) (length message) free.lengths in
       record { settings = free.settings; rows_exact = lengths.0; message_exact = lengths.1; in_time_lem = free.in_time_lem }
 
-  pub loss_clear : LossOpen → loss_cause x rows message ≡ answer.Accepted
+  pub loss_clear : LossOpen → loss_cause x rows message ≡ Ok tt
   unfolding loss_cause slot_cause
   loss_clear h =
       slot_clear x.settings exact x.due
@@ -63,7 +63,7 @@ module _ (x : Receiver) (rows message : List ℕ) where
     abbrev own : List Row
     own = header_table version x.settings frame ++ (row (not (agree 4 (drop 10 frame) (slot_bytes x.due))) OtherSlot ∷ [])
 
-    pub frame_open : frame_cause_of version x rows frame message ≡ answer.Accepted → FrameOpen
+    pub frame_open : frame_cause_of version x rows frame message ≡ Ok tt → FrameOpen
     unfolding frame_cause_of slot_cause frame_len
     frame_open e =
         let parts = both_clear (slot_cause x.settings framed x.due) _ (rw (one_below (slot_table x.settings framed x.due) own) at e) in
@@ -83,7 +83,7 @@ module _ (x : Receiver) (rows message : List ℕ) where
               (passes (agree 4 (drop 10 frame) (slot_bytes x.due)) (none OtherSlot));
         }
 
-    pub frame_clear : FrameOpen → frame_cause_of version x rows frame message ≡ answer.Accepted
+    pub frame_clear : FrameOpen → frame_cause_of version x rows frame message ≡ Ok tt
     unfolding frame_cause_of
     frame_clear h =
         rw (

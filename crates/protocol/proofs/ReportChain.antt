@@ -1,4 +1,5 @@
 -- A list of reports as a chain: each one finds the slot due and the rows that the one before it left.
+use Rattle.std.specs.Prelude.{Ok}
 use mathlib.Core.Path.{◌≡◌, refl, subst⁻¹}
 use mathlib.Core.List.{List, [], ◌∷◌}
 use mathlib.Core.Logic.{⊎_elim}
@@ -11,7 +12,6 @@ use Rattle.code.specs.declared.settings.Settings.{Settings}
 use Rattle.code.specs.Settings.{accepted}
 use Rattle.code.proofs.Shape.{Shape, shape}
 use Rattle.protocol.specs.declared.Receiver.{Receiver}
-use Rattle.protocol.specs.declared.Answer.TheVariants as answer
 use Rattle.protocol.specs.Lengths.{row_len, row_count, receiver_len}
 use Rattle.protocol.specs.States.{opened_receiver, reported_on}
 use Rattle.protocol.specs.Rows.{put_row}
@@ -97,7 +97,7 @@ chain x ok rows (c ∷ cs) exact =
 module _ (s : Settings) (slot : ℕ) (rows : List ℕ) (opens : OpensAt s slot rows) where
   -- opening makes its slot due, and the rows those of the slots before it
   pub opened_receiver_lem : open_receiver_of s slot rows
-      ≡ record { answer = answer.Accepted; receiver = opened_receiver s slot; rows = opened_rows s slot }
+      ≡ record { answer = Ok tt; receiver = opened_receiver s slot; rows = opened_rows s slot }
   unfolding open_receiver_of
   opened_receiver_lem = rw (receiver_clear s slot rows opens, open_receiver_of)
 

@@ -1,4 +1,5 @@
 -- Demand 2, the receiver: `demand2_verdict`, whose statement is `Demand2Verdict` of specs/Meaning.antt.
+use Rattle.std.specs.Prelude.{Ok, Err}
 use mathlib.Core.Path.{◌≡◌, refl, ap, subst, subst⁻¹}
 use mathlib.Core.Bool.{Bool, true, false, cond}
 use mathlib.Core.Logic.{◌↔◌, ◌⊎◌, inl, inr, ⊎_elim}
@@ -9,13 +10,11 @@ use lib.Dec.{T, ltb, ltb→lt, lt→ltb}
 use Rattle.code.specs.declared.settings.Settings.{Settings}
 use Rattle.code.specs.Settings.{delay_of}
 use Rattle.protocol.specs.declared.Receiver.{Receiver}
-use Rattle.protocol.specs.declared.Reply.{Reply}
-use Rattle.protocol.specs.declared.Reply.TheVariants as reply
+use Rattle.protocol.specs.Answers.{Answer, Reply}
+use Rattle.protocol.specs.declared.Told.TheVariants.{NoneYet, Whole, Lost, Clash}
 use Rattle.protocol.specs.Lengths.{row_len, row_count}
 use Rattle.protocol.specs.Rows.{put_row}
 use Rattle.protocol.specs.Verdict.{arrived, by_tests, none_fits, two_differ, verdict}
-use Rattle.protocol.specs.declared.Answer.{Answer}
-use Rattle.protocol.specs.declared.Answer.TheVariants as answer
 use Rattle.protocol.specs.Causes.{loss_cause, frame_cause}
 use Rattle.protocol.specs.Numbers.{reply_number}
 use Rattle.protocol.specs.Calls.{Reported, row_before, message_due, moved_on, loss_of, heard_of, open_receiver_of}
@@ -33,7 +32,7 @@ use Rattle.protocol.proofs.Arrivals.{known_came}
 -- ---- none yet
 
 -- the reply is none yet by the test, where the other one is not
-none_by : (b : Bool) (q : Reply) → (reply_number q ≡ 16 → ⊥) → (reply_number (cond b reply.NoneYet q) ≡ 16) ↔ T b
+none_by : (b : Bool) (q : Reply) → (reply_number q ≡ 16 → ⊥) → (reply_number (cond b (Ok NoneYet) q) ≡ 16) ↔ T b
 none_by true q n = (λ e. tt, λ h. refl)
 none_by false q n = (λ e. absurd (n e), λ h. absurd h)
 
@@ -51,10 +50,10 @@ module _ (s : Settings) (rows : List ℕ) (due t : ℕ) where
   tells r message e =
       rw (e.0, e.1)
       record {
-        clash = number_of reply.Clash (verdict_clash s rows due t);
-        lost = number_of reply.Lost (verdict_lost s rows due t);
-        whole = number_of reply.Whole (verdict_else s rows due t);
-        shared = λ n. whole_bytes s rows due t (reply_tells (verdict s rows due t) reply.Whole n);
+        clash = number_of (Ok Clash) (verdict_clash s rows due t);
+        lost = number_of (Ok Lost) (verdict_lost s rows due t);
+        whole = number_of (Ok Whole) (verdict_else s rows due t);
+        shared = λ n. whole_bytes s rows due t (reply_tells (verdict s rows due t) (Ok Whole) n);
       }
 
 -- ---- by the rows
@@ -82,7 +81,7 @@ moved_report x call rows =
     let s = x.settings in
     let now : List ℕ = put_row (row_len s) (x.due % row_count s) (row_of s call) rows in
     let t : ℕ = message_due s x.due in
-    let told : Reply = cond (ltb x.due (delay_of s)) reply.NoneYet (verdict s now (x.due + 1) t) in
+    let told : Reply = cond (ltb x.due (delay_of s)) (Ok NoneYet) (verdict s now (x.due + 1) t) in
     let none = none_by (ltb x.due (delay_of s)) (verdict s now (x.due + 1) t) (verdict_told s now (x.due + 1) t) in
     record {
       moved = (refl, refl, refl);
@@ -101,14 +100,14 @@ accepted_moves x rows (heard frame message) ok = go (frame_cause x rows frame me
   where
     go : (f : Answer) → frame_cause x rows frame message ≡ f
         → heard_of x rows frame message ≡ moved_on x (row_of x.settings (heard frame message)) rows
-    go answer.Accepted e = heard_moves x rows frame message e
-    go (answer.Refused c) e = absurd (subst (λ (r : Reported). T (accepts r.reply)) (heard_stays x rows frame message c e) ok)
+    go (Ok tt) e = heard_moves x rows frame message e
+    go (Err c) e = absurd (subst (λ (r : Reported). T (accepts r.reply)) (heard_stays x rows frame message c e) ok)
 accepted_moves x rows (missed message) ok = go (loss_cause x rows message) refl
   where
     go : (f : Answer) → loss_cause x rows message ≡ f
         → loss_of x rows message ≡ moved_on x (row_of x.settings (missed message)) rows
-    go answer.Accepted e = loss_moves x rows message e
-    go (answer.Refused c) e = absurd (subst (λ (r : Reported). T (accepts r.reply)) (loss_stays x rows message c e) ok)
+    go (Ok tt) e = loss_moves x rows message e
+    go (Err c) e = absurd (subst (λ (r : Reported). T (accepts r.reply)) (loss_stays x rows message c e) ok)
 
 -- demand 2, the receiver. Wrong definitions that agree with themselves, and what in the statement rules each out:
 -- - lost for any slot not heard: 18 asks for two fitting words that differ in the message

@@ -1,4 +1,5 @@
 -- What an accepted report writes and answers: a row of the exact length, and never a refusal.
+use Rattle.std.specs.Prelude.{Ok}
 use mathlib.Core.Path.{◌≡◌}
 use mathlib.Core.Bool.{Bool, true, false, cond}
 use mathlib.Core.List.{List}
@@ -9,8 +10,8 @@ use lib.ListN.{length, drop, length-drop, length-replicate}
 use Rattle.code.specs.declared.settings.Settings.{Settings}
 use Rattle.code.specs.Settings.{delay_of}
 use Rattle.protocol.specs.declared.Receiver.{Receiver}
-use Rattle.protocol.specs.declared.Reply.{Reply}
-use Rattle.protocol.specs.declared.Reply.TheVariants as reply
+use Rattle.protocol.specs.Answers.{Reply}
+use Rattle.protocol.specs.declared.Told.TheVariants.{NoneYet, Whole, Lost, Clash}
 use Rattle.protocol.specs.Lengths.{body_len, frame_len, row_len, row_count}
 use Rattle.protocol.specs.Rows.{put_row}
 use Rattle.protocol.specs.Verdict.{none_fits, two_differ, verdict}
@@ -38,7 +39,7 @@ pub verdict_accepts : (s : Settings) (rows : List ℕ) (due t : ℕ) → T (acce
 unfolding verdict
 verdict_accepts s rows due t =
     let lost : Bool = two_differ s rows due t in
-    either (none_fits s rows due t) reply.Clash (cond lost reply.Lost reply.Whole) tt (either lost reply.Lost reply.Whole tt tt)
+    either (none_fits s rows due t) (Ok Clash) (cond lost (Ok Lost) (Ok Whole)) tt (either lost (Ok Lost) (Ok Whole) tt tt)
 
 -- a report that moves on is never refused
 pub moved_accepts : (x : Receiver) (row rows : List ℕ) → T (accepts (moved_on x row rows).reply)
@@ -47,4 +48,4 @@ moved_accepts x row rows =
     let s = x.settings in
     let now : List ℕ = put_row (row_len s) (x.due % row_count s) row rows in
     let t : ℕ = message_due s x.due in
-    either (ltb x.due (delay_of s)) reply.NoneYet (verdict s now (x.due + 1) t) tt (verdict_accepts s now (x.due + 1) t)
+    either (ltb x.due (delay_of s)) (Ok NoneYet) (verdict s now (x.due + 1) t) tt (verdict_accepts s now (x.due + 1) t)

@@ -1,4 +1,5 @@
 -- Demand 3, of the calls that a program makes: `runs_are_lists` and `demand3_runs`, whose statements are in specs/Runs.antt.
+use Rattle.std.specs.Prelude.{Ok, Err}
 use mathlib.Core.Path.{◌≡◌, refl, sym, ap, ◌∙◌, subst, subst⁻¹}
 use mathlib.Core.List.Memᴰ
 use mathlib.Core.List.{List, [], ◌∷◌, map, Memᴰ}
@@ -8,8 +9,7 @@ use Rattle.galois.specs.Byte.{Bytes}
 use Rattle.code.specs.declared.settings.Settings.{Settings}
 use Rattle.protocol.specs.declared.Sender.{Sender}
 use Rattle.protocol.specs.declared.Receiver.{Receiver}
-use Rattle.protocol.specs.declared.Answer.{Answer}
-use Rattle.protocol.specs.declared.Answer.TheVariants as answer
+use Rattle.protocol.specs.Answers.{Answer}
 use Rattle.protocol.specs.Lengths.{sender_len}
 use Rattle.protocol.specs.Causes.{Row, first_of, open_table, open_receiver_table, open_cause, open_receiver_cause}
 use Rattle.protocol.specs.Numbers.{answer_number}
@@ -76,12 +76,12 @@ runs_are_lists = record {
 -- ---- demand 3
 
 -- the table of a call that is accepted finds no cause
-table_clear : (rs : List Row) {number : ℕ} {Stays : Type 0} → Refuses rs number Stays → number ≡ 0 → first_of rs ≡ answer.Accepted
+table_clear : (rs : List Row) {number : ℕ} {Stays : Type 0} → Refuses rs number Stays → number ≡ 0 → first_of rs ≡ Ok tt
 table_clear rs {number} refuses none = go (first_of rs) refl
   where
-    go : (a : Answer) → first_of rs ≡ a → first_of rs ≡ answer.Accepted
-    go answer.Accepted e = e
-    go (answer.Refused c) e = absurd (accepted_number c (sym none ∙ (refuses.first c).1 (found_first c rs e)))
+    go : (a : Answer) → first_of rs ≡ a → first_of rs ≡ Ok tt
+    go (Ok tt) e = e
+    go (Err c) e = absurd (accepted_number c (sym none ∙ (refuses.first c).1 (found_first c rs e)))
 
 module _ (s : Settings) (opening : ℕ) (sent : List SendMade) (told : List ReportMade) (a : SenderOpened s sent)
     (b : ReceiverOpened s opening told) (bytes : (m : SendMade) → Memᴰ m sent → Bytes m.call.message) where

@@ -1,4 +1,5 @@
 -- The sender's rows hold the last n - 1 messages of the history, and zeros for the slots before slot 0.
+use Rattle.std.specs.Prelude.{Ok}
 use mathlib.Core.Path.{◌≡◌, refl, sym, ap, ◌∙◌}
 use mathlib.Core.Logic.{⊎_elim}
 use mathlib.Core.List.{List, [], Memᴰ}
@@ -13,7 +14,6 @@ use Rattle.code.specs.declared.settings.Settings.{Settings}
 use Rattle.code.specs.Settings.{k_of, n_of}
 use Rattle.code.proofs.Shape.{Shape}
 use Rattle.protocol.specs.declared.Sender.{Sender}
-use Rattle.protocol.specs.declared.Answer.TheVariants as answer
 use Rattle.protocol.specs.Lengths.{message_len, sender_len}
 use Rattle.protocol.specs.States.{opened_sender}
 use Rattle.protocol.specs.Frame.{remembered}
@@ -35,7 +35,7 @@ Remembers s H x rows = Kept s x rows × Ring (n_of s - 1) (message_len s) rows x
 
 -- an accepted send's message is that of H
 abbrev pub Follows : (ℕ → List ℕ) → SendMade → Type 0
-Follows H m = m.after.answer ≡ answer.Accepted → m.call.message ≡ H m.before.due
+Follows H m = m.after.answer ≡ Ok tt → m.call.message ≡ H m.before.due
 
 -- rows of zeros hold what comes before slot 0
 pub remembers_start : (s : Settings) (H : ℕ → List ℕ)

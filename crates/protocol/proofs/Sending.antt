@@ -1,4 +1,5 @@
 -- A send: the conditions under which no cause holds, and what comes of it then and otherwise. The opening that comes before.
+use Rattle.std.specs.Prelude.{Ok, Err}
 use mathlib.Core.Path.{◌≡◌, refl, sym, ap, ◌∙◌}
 use mathlib.Core.Bool.{Bool}
 use mathlib.Core.Logic.{◌↔◌}
@@ -11,12 +12,11 @@ use Rattle.code.specs.declared.settings.Settings.{Settings}
 use Rattle.code.specs.Settings.{accepted, n_of}
 use Rattle.protocol.specs.declared.Sender.{Sender}
 use Rattle.protocol.specs.declared.Cause.{Cause}
-use Rattle.protocol.specs.declared.Answer.TheVariants as answer
 use Rattle.protocol.specs.Lengths.{last_slot, message_len, frame_len, sender_len, exactly_framed}
 use Rattle.protocol.specs.States.{opened_sender, sent_on}
 use Rattle.protocol.specs.Frame.{frame_of}
 use Rattle.protocol.specs.Rows.{put_row}
-use Rattle.protocol.specs.declared.Answer.{Answer}
+use Rattle.protocol.specs.Answers.{Answer}
 use Rattle.protocol.specs.Causes.{slot_cause, send_cause}
 use Rattle.protocol.specs.Calls.{Sent, open_sender_of, send_of}
 use Rattle.protocol.proofs.CauseTables.{open_clear, slot_open, slot_clear, framed_lengths, lengths_framed}
@@ -26,7 +26,7 @@ use Rattle.protocol.proofs.CauseTables.{open_clear, slot_open, slot_clear, frame
 -- an accepted opening of the sender starts at slot 0 with rows of zeros
 pub opened_sender_lem : (s : Settings) (rows : List ℕ) → T (accepted s) → length rows ≡ sender_len s
     → open_sender_of s rows
-    ≡ record { answer = answer.Accepted; sender = opened_sender s; rows = replicate (sender_len s) 0 }
+    ≡ record { answer = Ok tt; sender = opened_sender s; rows = replicate (sender_len s) 0 }
 unfolding open_sender_of
 opened_sender_lem s rows ok full = rw (open_clear s (sender_len s) rows ok full, open_sender_of)
 
@@ -43,7 +43,7 @@ pub record Sendable (x : Sender) (rows message frame : List ℕ) : Type 0 where
 -- what an accepted send hands back
 abbrev pub taken_send : Sender → List ℕ → List ℕ → Sent
 taken_send x rows message = record {
-  answer = answer.Accepted;
+  answer = Ok tt;
   sender = sent_on x;
   rows = put_row (message_len x.settings) (x.due % (n_of x.settings - 1)) message rows;
   frame = frame_of 1 x.settings rows message x.due;
@@ -51,14 +51,14 @@ taken_send x rows message = record {
 
 -- what a refused send hands back: everything as it was
 abbrev pub refused_send : Cause → Sender → List ℕ → List ℕ → Sent
-refused_send c x rows frame = record { answer = answer.Refused c; sender = x; rows = rows; frame = frame }
+refused_send c x rows frame = record { answer = Err c; sender = x; rows = rows; frame = frame }
 
 module _ (x : Sender) (rows message frame : List ℕ) where
   abbrev framed : Bool
   framed = exactly_framed x.settings (sender_len x.settings) (length rows) (length message) (length frame)
 
   -- the table finds nothing where the conditions hold
-  pub send_clear : Sendable x rows message frame → send_cause x rows message frame ≡ answer.Accepted
+  pub send_clear : Sendable x rows message frame → send_cause x rows message frame ≡ Ok tt
   unfolding send_cause slot_cause
   send_clear h =
       slot_clear x.settings framed x.due
@@ -70,7 +70,7 @@ module _ (x : Sender) (rows message frame : List ℕ) where
       })
 
   -- and only there
-  pub clear_send : send_cause x rows message frame ≡ answer.Accepted → Sendable x rows message frame
+  pub clear_send : send_cause x rows message frame ≡ Ok tt → Sendable x rows message frame
   unfolding send_cause slot_cause
   clear_send e =
       let free = slot_open x.settings framed x.due e in
@@ -94,11 +94,11 @@ pub data SendCase (x : Sender) (rows message frame : List ℕ) : Type 0 where
 found_case : (x : Sender) (rows message frame : List ℕ) (f : Answer) → send_cause x rows message frame ≡ f
     → SendCase x rows message frame
 unfolding send_of
-found_case x rows message frame answer.Accepted e = taken (clear_send x rows message frame e) (rw (e, send_of))
-found_case x rows message frame (answer.Refused c) e =
+found_case x rows message frame (Ok tt) e = taken (clear_send x rows message frame e) (rw (e, send_of))
+found_case x rows message frame (Err c) e =
     refused c
     (λ h.
-    let other : send_cause x rows message frame ≡ answer.Accepted = send_clear x rows message frame h in
+    let other : send_cause x rows message frame ≡ (Ok tt) = send_clear x rows message frame h in
     let z : ◌≡◌ {A = ℕ} 0 1 = cc in
     omega arith)
     (rw (e, send_of))
@@ -108,7 +108,7 @@ pub send_case : (x : Sender) (rows message frame : List ℕ) → SendCase x rows
 send_case x rows message frame = found_case x rows message frame (send_cause x rows message frame) refl
 
 -- an accepted send, by its answer
-pub taken_case : (x : Sender) (rows message frame : List ℕ) → (send_of x rows message frame).answer ≡ answer.Accepted
+pub taken_case : (x : Sender) (rows message frame : List ℕ) → (send_of x rows message frame).answer ≡ Ok tt
     → Sendable x rows message frame × (send_of x rows message frame ≡ taken_send x rows message)
 taken_case x rows message frame e = go (send_case x rows message frame)
   where
@@ -116,16 +116,16 @@ taken_case x rows message frame e = go (send_case x rows message frame)
         → Sendable x rows message frame × (send_of x rows message frame ≡ taken_send x rows message)
     go (taken h f) = (h, f)
     go (refused c never f) =
-        let same : answer.Refused c ≡ answer.Accepted = sym (ap (λ (r : Sent). r.answer) f) ∙ e in
+        let same : Err c ≡ (Ok tt) = sym (ap (λ (r : Sent). r.answer) f) ∙ e in
         let z : ◌≡◌ {A = ℕ} 0 1 = cc in
         absurd (omega arith)
 
 -- a send is accepted exactly if no cause holds
 pub send_taken : (x : Sender) (rows message frame : List ℕ)
-    → ((send_of x rows message frame).answer ≡ answer.Accepted) ↔ Sendable x rows message frame
+    → ((send_of x rows message frame).answer ≡ Ok tt) ↔ Sendable x rows message frame
 send_taken x rows message frame = (λ e. (taken_case x rows message frame e).0, λ h. go h (send_case x rows message frame))
   where
     go : Sendable x rows message frame → SendCase x rows message frame
-        → (send_of x rows message frame).answer ≡ answer.Accepted
+        → (send_of x rows message frame).answer ≡ Ok tt
     go h (taken _ f) = ap (λ (r : Sent). r.answer) f
     go h (refused c never f) = absurd (never h)

@@ -1,4 +1,5 @@
 -- The slots of the sender's list: they are sent in order, none twice and none left out, and each has its message.
+use Rattle.std.specs.Prelude.{Ok}
 use mathlib.Core.Path.{◌≡◌, refl, sym, ap, ap₂, ◌∙◌}
 use mathlib.Core.Bool.{Bool, false, cond, ◌&&◌, and-false}
 use mathlib.Core.Logic.{⊎_elim}
@@ -10,7 +11,6 @@ use native.Mathlib.Omega.{arith}
 use lib.Dec.{eqb}
 use borrow.Author.Tests.{eq-eqb, ne_eqb}
 use Rattle.protocol.specs.declared.Sender.{Sender}
-use Rattle.protocol.specs.declared.Answer.TheVariants as answer
 use Rattle.protocol.specs.Calls.{Sent, send_of}
 use Rattle.protocol.specs.TwoLists.{Send, SendMade, sends}
 use Rattle.protocol.specs.Histories.{SentAs, is_accepted, picked_at, message_at}
@@ -58,7 +58,7 @@ passed_over x rows c cs m later = go (send_case x rows c.message c.frame)
 
 -- what is picked at an accepted member's slot is picked from that member
 picked : (g : SendMade → List ℕ) (x : Sender) (rows : List ℕ) (calls : List Send) (m : SendMade)
-    → Memᴰ m (sends x rows calls) → m.after.answer ≡ answer.Accepted
+    → Memᴰ m (sends x rows calls) → m.after.answer ≡ Ok tt
     → picked_at g (sends x rows calls) m.before.due ≡ g m
 unfolding sends picked_at
 picked g x rows [] m h ok = absurd (Memᴰ.not-nil h)
@@ -67,7 +67,7 @@ picked g x rows (c ∷ cs) m h ok =
     let rest : List SendMade = sends r.sender r.rows cs in
     ⊎_elim
     (λ e.
-    let answered : r.answer ≡ answer.Accepted = sym (ap (λ (n : SendMade). n.after.answer) e) ∙ ok in
+    let answered : r.answer ≡ (Ok tt) = sym (ap (λ (n : SendMade). n.after.answer) e) ∙ ok in
     ap (λ (b : Bool). cond b (g (made_of x rows c)) (picked_at g rest m.before.due))
     (ap₂ ◌&&◌ (ap is_accepted answered) (eq-eqb x.due m.before.due (sym (ap (λ (n : SendMade). n.before.due) e))))
     ∙ ap g (sym e))
@@ -101,7 +101,7 @@ module _ (x : Sender) (rows : List ℕ) (calls : List Send) where
 
 -- an accepted member of the list, for slot t
 abbrev SlotSent : List SendMade → ℕ → Type 0
-SlotSent made t = (m : SendMade) × Memᴰ m made × (m.after.answer ≡ answer.Accepted) × (m.before.due ≡ t)
+SlotSent made t = (m : SendMade) × Memᴰ m made × (m.after.answer ≡ Ok tt) × (m.before.due ≡ t)
 
 -- a list with one more send before it
 longer : (m : SendMade) (ms : List SendMade) (t : ℕ) → SlotSent ms t → SlotSent (m ∷ ms) t
@@ -109,7 +109,7 @@ longer m ms t found = (found.0, Memᴰ.tail found.1, found.2, found.3)
 
 -- the slots from the first sender's to an accepted member's are sent
 slot_sent : (x : Sender) (rows : List ℕ) (calls : List Send) (t : ℕ) (m : SendMade) → Memᴰ m (sends x rows calls)
-    → m.after.answer ≡ answer.Accepted → x.due ≤ t → t ≤ m.before.due → SlotSent (sends x rows calls) t
+    → m.after.answer ≡ Ok tt → x.due ≤ t → t ≤ m.before.due → SlotSent (sends x rows calls) t
 unfolding sends
 slot_sent x rows [] t m h ok from to = absurd (Memᴰ.not-nil h)
 slot_sent x rows (c ∷ cs) t m h ok from to =

@@ -1,4 +1,5 @@
 -- What the receiver's verdict on message t means, in the words of specs/Meaning.antt.
+use Rattle.std.specs.Prelude.{Ok, Err}
 use mathlib.Core.Path.{◌≡◌, refl, sym, ap, ap₂, ◌∙◌, subst, subst⁻¹}
 use mathlib.Core.Bool.{Bool, true, false}
 use mathlib.Core.Logic.{◌↔◌}
@@ -19,8 +20,8 @@ use Rattle.galois.proofs.ByIndex.{length-table, get_or-table}
 use Rattle.elimination.specs.declared.lane.Symbol.{Symbol}
 use Rattle.elimination.specs.declared.lane.Symbol.TheVariants as symbol
 use Rattle.elimination.proofs.ValueLaws.{said_clash, clash_said, said_lost, lost_said, whole_said}
-use Rattle.protocol.specs.declared.Reply.{Reply}
-use Rattle.protocol.specs.declared.Reply.TheVariants as reply
+use Rattle.protocol.specs.Answers.{Reply}
+use Rattle.protocol.specs.declared.Told.TheVariants.{NoneYet, Whole, Lost, Clash}
 use Rattle.protocol.specs.Lengths.{message_len}
 use Rattle.protocol.specs.Verdict.{arrived, symbol_said, is_clash, is_lost, whole_byte, some_codeword, by_tests}
 use Rattle.protocol.specs.Verdict.{none_fits, two_differ, verdict, shared_bytes, buffer_of}
@@ -30,17 +31,17 @@ use Rattle.protocol.specs.Meaning.{Fitting, SomeClash, SomeLost, Share, AllShare
 -- ---- one of three, by two tests
 
 -- the first test passes; else the second; else neither
-first : (a b : Bool) → (by_tests a b ≡ reply.Clash) ↔ T a
+first : (a b : Bool) → (by_tests a b ≡ Ok Clash) ↔ T a
 first true b = (λ e. tt, λ h. refl)
 first false true = (λ e. absurd (let z : ◌≡◌ {A = ℕ} 0 1 = cc in omega arith), λ h. absurd h)
 first false false = (λ e. absurd (let z : ◌≡◌ {A = ℕ} 0 1 = cc in omega arith), λ h. absurd h)
 
-second : (a b : Bool) → (by_tests a b ≡ reply.Lost) ↔ ((T a → ⊥) × T b)
+second : (a b : Bool) → (by_tests a b ≡ Ok Lost) ↔ ((T a → ⊥) × T b)
 second true b = (λ e. absurd (let z : ◌≡◌ {A = ℕ} 0 1 = cc in omega arith), λ x. absurd (x.0 tt))
 second false true = (λ e. ((λ h. h), tt), λ x. refl)
 second false false = (λ e. absurd (let z : ◌≡◌ {A = ℕ} 0 1 = cc in omega arith), λ x. absurd x.1)
 
-third : (a b : Bool) → (by_tests a b ≡ reply.Whole) ↔ ((T a → ⊥) × (T b → ⊥))
+third : (a b : Bool) → (by_tests a b ≡ Ok Whole) ↔ ((T a → ⊥) × (T b → ⊥))
 third true b = (λ e. absurd (let z : ◌≡◌ {A = ℕ} 0 1 = cc in omega arith), λ x. absurd (x.0 tt))
 third false true = (λ e. absurd (let z : ◌≡◌ {A = ℕ} 0 1 = cc in omega arith), λ x. absurd (x.1 tt))
 third false false = (λ e. ((λ h. h), λ h. h), λ x. refl)
@@ -161,12 +162,12 @@ module _ (s : Settings) (rows : List ℕ) (due t : ℕ) where
   two = two_differ s rows due t
 
   -- clash, exactly if some codeword that carries the message has no word that fits what arrived
-  pub verdict_clash : (verdict s rows due t ≡ reply.Clash) ↔ SomeClash s what
+  pub verdict_clash : (verdict s rows due t ≡ Ok Clash) ↔ SomeClash s what
   unfolding verdict
   verdict_clash = (λ e. clash_means ((first none two).0 e), λ c. (first none two).1 (means_clash c))
 
   -- else lost, exactly if two fitting words differ in it
-  pub verdict_lost : (verdict s rows due t ≡ reply.Lost) ↔ ((SomeClash s what → ⊥) × SomeLost s what)
+  pub verdict_lost : (verdict s rows due t ≡ Ok Lost) ↔ ((SomeClash s what → ⊥) × SomeLost s what)
   unfolding verdict
   verdict_lost = (
     λ e. let x = (second none two).0 e in ((λ c. x.0 (means_clash c)), lost_means x.1),
@@ -174,7 +175,7 @@ module _ (s : Settings) (rows : List ℕ) (due t : ℕ) where
   )
 
   -- else whole
-  pub verdict_else : (verdict s rows due t ≡ reply.Whole) ↔ ((SomeClash s what → ⊥) × (SomeLost s what → ⊥))
+  pub verdict_else : (verdict s rows due t ≡ Ok Whole) ↔ ((SomeClash s what → ⊥) × (SomeLost s what → ⊥))
   unfolding verdict
   verdict_else = (
     λ e. let x = (third none two).0 e in ((λ c. x.0 (means_clash c)), λ l. x.1 (means_lost l)),
@@ -182,7 +183,7 @@ module _ (s : Settings) (rows : List ℕ) (due t : ℕ) where
   )
 
   -- and whole where the fitting words share bytes
-  pub shares_whole : (byte : ℕ → ℕ → ℕ) → AllShare s what byte → verdict s rows due t ≡ reply.Whole
+  pub shares_whole : (byte : ℕ → ℕ → ℕ) → AllShare s what byte → verdict s rows due t ≡ Ok Whole
   shares_whole byte all = verdict_else.1 ((λ c. clash_apart byte all c), λ l. lost_apart byte all l)
 
   -- a shared byte, where it stands in the message
@@ -195,7 +196,7 @@ module _ (s : Settings) (rows : List ℕ) (due t : ℕ) where
       ∙ ap₂ (λ (a b : ℕ). whole_byte (told a b)) (digits_div i hv) (digits_mod i hv)
 
   -- and then the message buffer holds them
-  pub whole_bytes : verdict s rows due t ≡ reply.Whole
+  pub whole_bytes : verdict s rows due t ≡ Ok Whole
       → AllShare s what (λ i v. get_or (buffer_of s rows due t (verdict s rows due t)) (i * s.lanes + v) 0)
   unfolding buffer_of shared_bytes verdict
   whole_bytes e i v hi hv =
@@ -208,20 +209,20 @@ module _ (s : Settings) (rows : List ℕ) (due t : ℕ) where
   -- zeros unless the message is whole
   pub buffer_zeros : (r : Reply) → (reply_number r ≡ 17 → ⊥) → buffer_of s rows due t r ≡ replicate (message_len s) 0
   unfolding buffer_of
-  buffer_zeros (reply.Refused c) n = refl
-  buffer_zeros reply.NoneYet n = refl
-  buffer_zeros reply.Whole n = absurd (n refl)
-  buffer_zeros reply.Lost n = refl
-  buffer_zeros reply.Clash n = refl
+  buffer_zeros (Err c) n = refl
+  buffer_zeros (Ok NoneYet) n = refl
+  buffer_zeros (Ok Whole) n = absurd (n refl)
+  buffer_zeros (Ok Lost) n = refl
+  buffer_zeros (Ok Clash) n = refl
 
   -- and it has its length
   pub buffer_length : (r : Reply) → length (buffer_of s rows due t r) ≡ message_len s
   unfolding buffer_of
-  buffer_length (reply.Refused c) = length-replicate (message_len s) 0
-  buffer_length reply.NoneYet = length-replicate (message_len s) 0
-  buffer_length reply.Whole = length-table (message_len s) _
-  buffer_length reply.Lost = length-replicate (message_len s) 0
-  buffer_length reply.Clash = length-replicate (message_len s) 0
+  buffer_length (Err c) = length-replicate (message_len s) 0
+  buffer_length (Ok NoneYet) = length-replicate (message_len s) 0
+  buffer_length (Ok Whole) = length-table (message_len s) _
+  buffer_length (Ok Lost) = length-replicate (message_len s) 0
+  buffer_length (Ok Clash) = length-replicate (message_len s) 0
 
   -- and where the fitting words share the bytes of a list of that length, it is that list
   pub whole_list : 0 < s.lanes → (l : List ℕ) → length l ≡ message_len s → AllShare s what (λ i v. get_or l (i * s.lanes + v) 0)

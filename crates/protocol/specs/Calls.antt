@@ -1,14 +1,12 @@
 -- Document 01, "What is remembered" and "Why a call says no", and document 02 §3 and §6: each call as a function of the state and every
 -- lent list.
-use Rattle.std.specs.Prelude.{cond, List, ◌∷◌, ℕ, ◌+◌, ◌-◌, ◌%◌, ltb, ℤ, nat_abs, drop, replicate}
+use Rattle.std.specs.Prelude.{cond, List, ◌∷◌, ℕ, ◌+◌, ◌-◌, ◌%◌, ltb, ℤ, nat_abs, Ok, Err, drop, replicate}
 use Rattle.code.specs.declared.settings.Settings.{Settings}
 use Rattle.code.specs.Settings.{delay_of, n_of}
 use Rattle.protocol.specs.declared.Sender.{Sender}
 use Rattle.protocol.specs.declared.Receiver.{Receiver}
-use Rattle.protocol.specs.declared.Answer.{Answer}
-use Rattle.protocol.specs.declared.Answer.TheVariants as answer
-use Rattle.protocol.specs.declared.Reply.{Reply}
-use Rattle.protocol.specs.declared.Reply.TheVariants as reply
+use Rattle.protocol.specs.Answers.{Answer, Reply}
+use Rattle.protocol.specs.declared.Told.TheVariants.{NoneYet}
 use Rattle.protocol.specs.Lengths.{message_len, body_len, sender_len, row_len, row_count}
 use Rattle.protocol.specs.States.{opened_sender, sent_on, no_sender, opened_receiver, reported_on, no_receiver}
 use Rattle.protocol.specs.Frame.{frame_of}
@@ -27,8 +25,8 @@ pub record OpenedSender : Type 0 where
 unfoldable pub open_sender_of : Settings → List ℕ → OpenedSender
 open_sender_of s rows =
     elim (open_cause s (sender_len s) rows) [
-      | answer.Accepted ↦ record { answer = answer.Accepted; sender = opened_sender s; rows = replicate (sender_len s) 0 }
-      | answer.Refused c ↦ record { answer = answer.Refused c; sender = no_sender; rows = rows }
+      | Ok tt ↦ record { answer = Ok tt; sender = opened_sender s; rows = replicate (sender_len s) 0 }
+      | Err c ↦ record { answer = Err c; sender = no_sender; rows = rows }
     ]
 
 pub record Sent : Type 0 where
@@ -41,13 +39,13 @@ pub record Sent : Type 0 where
 unfoldable pub send_of : Sender → List ℕ → List ℕ → List ℕ → Sent
 send_of x rows message frame =
     elim (send_cause x rows message frame) [
-      | answer.Accepted ↦ record {
-        answer = answer.Accepted;
+      | Ok tt ↦ record {
+        answer = Ok tt;
         sender = sent_on x;
         rows = put_row (message_len x.settings) (x.due % (n_of x.settings - 1)) message rows;
         frame = frame_of 1 x.settings rows message x.due;
       }
-      | answer.Refused c ↦ record { answer = answer.Refused c; sender = x; rows = rows; frame = frame }
+      | Err c ↦ record { answer = Err c; sender = x; rows = rows; frame = frame }
     ]
 
 -- ---- the receiver
@@ -78,8 +76,8 @@ pub record OpenedReceiver : Type 0 where
 unfoldable pub open_receiver_of : Settings → ℕ → List ℕ → OpenedReceiver
 open_receiver_of s slot rows =
     elim (open_receiver_cause s slot rows) [
-      | answer.Accepted ↦ record { answer = answer.Accepted; receiver = opened_receiver s slot; rows = opened_rows s slot }
-      | answer.Refused c ↦ record { answer = answer.Refused c; receiver = no_receiver; rows = rows }
+      | Ok tt ↦ record { answer = Ok tt; receiver = opened_receiver s slot; rows = opened_rows s slot }
+      | Err c ↦ record { answer = Err c; receiver = no_receiver; rows = rows }
     ]
 
 pub record Reported : Type 0 where
@@ -97,7 +95,7 @@ abbrev pub told_by : Receiver → List ℕ → Reported
 told_by x now =
     let s = x.settings in
     let t : ℕ = message_due s x.due in
-    let told : Reply = cond (ltb x.due (delay_of s)) reply.NoneYet (verdict s now (x.due + 1) t) in
+    let told : Reply = cond (ltb x.due (delay_of s)) (Ok NoneYet) (verdict s now (x.due + 1) t) in
     record {
       reply = told;
       receiver = reported_on x;
@@ -113,16 +111,16 @@ moved_on x row rows = told_by x (put_row (row_len x.settings) (x.due % row_count
 unfoldable pub loss_of : Receiver → List ℕ → List ℕ → Reported
 loss_of x rows message =
     elim (loss_cause x rows message) [
-      | answer.Accepted ↦ moved_on x (replicate (row_len x.settings) 0) rows
-      | answer.Refused c ↦ record { reply = reply.Refused c; receiver = x; rows = rows; message = message }
+      | Ok tt ↦ moved_on x (replicate (row_len x.settings) 0) rows
+      | Err c ↦ record { reply = Err c; receiver = x; rows = rows; message = message }
     ]
 
 -- an accepted frame writes 1 and then its body
 unfoldable pub heard_of : Receiver → List ℕ → List ℕ → List ℕ → Reported
 heard_of x rows frame message =
     elim (frame_cause x rows frame message) [
-      | answer.Accepted ↦ moved_on x (1 ∷ drop 14 frame) rows
-      | answer.Refused c ↦ record { reply = reply.Refused c; receiver = x; rows = rows; message = message }
+      | Ok tt ↦ moved_on x (1 ∷ drop 14 frame) rows
+      | Err c ↦ record { reply = Err c; receiver = x; rows = rows; message = message }
     ]
 
 pub record Looked : Type 0 where
@@ -138,6 +136,6 @@ tell_of s rows due t = let told : Reply = verdict s rows due t in record { reply
 unfoldable pub look_up_of : Receiver → List ℕ → ℤ → List ℕ → Looked
 look_up_of x rows number message =
     elim (look_up_cause x rows number message) [
-      | answer.Accepted ↦ tell_of x.settings rows x.due (nat_abs number)
-      | answer.Refused c ↦ record { reply = reply.Refused c; message = message }
+      | Ok tt ↦ tell_of x.settings rows x.due (nat_abs number)
+      | Err c ↦ record { reply = Err c; message = message }
     ]

@@ -1,6 +1,6 @@
 -- Document 01, "Why a call says no", and document 02: the causes, their numbers, the table of each call in the order of checking, and
 -- the first that holds.
-use Rattle.std.specs.Prelude.{Bool, true, false, not, ◌||◌, List, [], ◌∷◌, ◌++◌, ℕ, eqb, ltb, ℤ, pos, ◌-ℤ◌, get_or, length, drop}
+use Rattle.std.specs.Prelude.{Bool, true, false, not, ◌||◌, List, [], ◌∷◌, ◌++◌, ℕ, eqb, ltb, ℤ, pos, ◌-ℤ◌, get_or, length, drop, Ok, Err}
 use Rattle.std.specs.Int.Signed.{lt_z, le_z}
 use Rattle.galois.specs.Bounded.{every}
 use Rattle.code.specs.declared.settings.Settings.{Settings}
@@ -10,8 +10,7 @@ use Rattle.protocol.specs.declared.Receiver.{Receiver}
 use Rattle.protocol.specs.declared.Cause.{Cause}
 use Rattle.protocol.specs.declared.Cause.TheVariants.{BadSettings, BadLength, PastLastSlot, OtherMark, OtherSettings, OtherSlot}
 use Rattle.protocol.specs.declared.Cause.TheVariants.{LateOpening, OutOfReach}
-use Rattle.protocol.specs.declared.Answer.{Answer}
-use Rattle.protocol.specs.declared.Answer.TheVariants as answer
+use Rattle.protocol.specs.Answers.{Answer}
 use Rattle.protocol.specs.Lengths.{last_slot, sender_len, receiver_len, exactly, exactly_framed}
 use Rattle.protocol.specs.Frame.{mark, five, slot_bytes}
 
@@ -28,7 +27,7 @@ number_of OutOfReach = 8
 
 -- refused for the cause c where its condition holds, else what the rest of the table says
 abbrev pub check : Bool → Cause → Answer → Answer
-check true c rest = answer.Refused c
+check true c rest = Err c
 check false c rest = rest
 
 -- a row of a call's table: its condition, and the cause
@@ -41,7 +40,7 @@ row condition c = record { holds = condition; why = c }
 
 -- the table read from the top: refused for the first cause that holds, if there is one
 abbrev pub first_of : List Row → Answer
-first_of [] = answer.Accepted
+first_of [] = Ok tt
 first_of (r ∷ rs) = check r.holds r.why (first_of rs)
 
 -- two lists agree at the first m places

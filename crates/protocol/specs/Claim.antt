@@ -1,12 +1,11 @@
 -- Demand 3, as one statement about two lists of any length, the receiver being opened at any slot.
-use Rattle.std.specs.Prelude.{◌≡◌, ◌↔◌, ℕ, ◌+◌, ◌-◌, ◌≤◌, T, length, take}
+use Rattle.std.specs.Prelude.{◌≡◌, ◌↔◌, ℕ, ◌+◌, ◌-◌, ◌≤◌, T, length, take, Ok}
 use mathlib.Core.List.{List, Memᴰ}
 use Rattle.galois.specs.Byte.{Bytes}
 use Rattle.code.specs.declared.settings.Settings.{Settings}
 use Rattle.code.specs.Settings.{accepted, delay_of, k_of}
 use Rattle.repair.specs.Fair.{Fair}
-use Rattle.protocol.specs.declared.Answer.TheVariants as answer
-use Rattle.protocol.specs.declared.Reply.TheVariants as reply
+use Rattle.protocol.specs.declared.Told.TheVariants.{Whole}
 use Rattle.protocol.specs.Lengths.{last_slot, message_len, frame_len, sender_len, receiver_len}
 use Rattle.protocol.specs.Frame.{header}
 use Rattle.protocol.specs.Calls.{OpenedSender, OpenedReceiver, open_sender_of, open_receiver_of}
@@ -24,7 +23,7 @@ Faithful sent told =
 -- a send is accepted exactly when no listed cause holds, in terms of the settings s that both ends were opened with
 abbrev pub SendTaken : Settings → SendMade → Type 0
 SendTaken s m =
-    (m.after.answer ≡ answer.Accepted)
+    (m.after.answer ≡ Ok tt)
     ↔ ((length m.call.message ≡ message_len s) × (length m.call.frame ≡ frame_len s) × (m.before.due ≤ last_slot))
 
 -- no listed cause holds of a report of slot due, in the same terms
@@ -53,7 +52,7 @@ pub record Holds (s : Settings) (opening : ℕ) (sent : List SendMade) (told : L
   pub on_time : (t : ℕ) (r : ReportMade) → Memᴰ r told → r.before.due ≡ t + delay_of s → T (accepts r.after.reply)
       → Fair s (lost_since opening (lost_at told)) (t + 1 - k_of s) (t + delay_of s)
       → (message : List ℕ) × (frame : List ℕ) × SentAs sent t message frame
-      × (r.after.reply ≡ reply.Whole) × (r.after.message ≡ message)
+      × (r.after.reply ≡ Ok Whole) × (r.after.message ≡ message)
 
 -- demand 3: any opening slot up to the last one, any rows lent to accepted openings, any list of sends of bytes, any list of reports,
 -- frames being the sender's own

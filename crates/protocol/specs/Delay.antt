@@ -1,12 +1,11 @@
 -- Document 02 §5, as one statement: the smaller of T and W - 1 stands for T in every formula, nothing changes for settings that document
 -- 01 accepted, and a frame keeps T as set.
-use Rattle.std.specs.Prelude.{◌≡◌, ◌↔◌, Bool, cond, ◌&&◌, List, [], ◌∷◌, ◌++◌, ℕ, ◌+◌, ◌-◌, ◌*◌, ◌≤◌, T, ltb, leb}
+use Rattle.std.specs.Prelude.{◌≡◌, ◌↔◌, Bool, cond, ◌&&◌, List, [], ◌∷◌, ◌++◌, ℕ, ◌+◌, ◌-◌, ◌*◌, ◌≤◌, T, ltb, leb, Err}
 use Rattle.galois.specs.Byte.{widen}
 use Rattle.code.specs.declared.settings.Settings.{Settings}
 use Rattle.code.specs.Settings.{accepted, all, delay_of, k_of, n_of, d_of}
 use Rattle.code.specs.Matrix.{product, alpha_entry, entry}
 use Rattle.protocol.specs.declared.Cause.TheVariants.{OtherSettings}
-use Rattle.protocol.specs.declared.Answer.TheVariants as answer
 use Rattle.protocol.specs.Lengths.{message_len, frame_len, sender_len, receiver_len}
 use Rattle.protocol.specs.Frame.{header}
 use Rattle.protocol.specs.Causes.{header_cause}
@@ -58,4 +57,4 @@ pub record Delays : Type 0 where
   pub rule : (s : Settings) → T (accepted s) ↔ T (accepted_before (at_delay s))
   -- the header keeps T as set: a frame of settings with another T meets 5
   pub other_delay : (version : ℕ) (s other : Settings) (t : ℕ) (body : List ℕ) → (s.delay ≡ other.delay → ⊥)
-      → header_cause version s (header version other t ++ body) ≡ answer.Refused OtherSettings
+      → header_cause version s (header version other t ++ body) ≡ Err OtherSettings

@@ -1,10 +1,7 @@
 -- Document 01, "Two lists, one claim": what a list of calls says of each slot. A slot is sent, or reported, when a call for it is accepted.
-use Rattle.std.specs.Prelude.{◌≡◌, Bool, true, false, cond, ◌&&◌, ◌||◌, ℕ, T, eqb, ltb}
+use Rattle.std.specs.Prelude.{◌≡◌, Bool, true, false, cond, ◌&&◌, ◌||◌, ℕ, T, eqb, ltb, is_ok, Ok}
 use mathlib.Core.List.{List, [], ◌∷◌, Memᴰ}
-use Rattle.protocol.specs.declared.Answer.{Answer}
-use Rattle.protocol.specs.declared.Answer.TheVariants as answer
-use Rattle.protocol.specs.declared.Reply.{Reply}
-use Rattle.protocol.specs.declared.Reply.TheVariants as reply
+use Rattle.protocol.specs.Answers.{Answer, Reply}
 use Rattle.protocol.specs.TwoLists.{SendMade, Report, heard, missed, ReportMade}
 
 -- ---- the sends
@@ -13,15 +10,14 @@ use Rattle.protocol.specs.TwoLists.{SendMade, Report, heard, missed, ReportMade}
 pub record SentAs (made : List SendMade) (t : ℕ) (message frame : List ℕ) : Type 0 where
   pub send : SendMade
   pub listed : Memᴰ send made
-  pub taken : send.after.answer ≡ answer.Accepted
+  pub taken : send.after.answer ≡ Ok tt
   pub slot : send.before.due ≡ t
   pub given : send.call.message ≡ message
   pub out : send.after.frame ≡ frame
 
 -- whether an answer is no refusal
 abbrev pub is_accepted : Answer → Bool
-is_accepted answer.Accepted = true
-is_accepted (answer.Refused c) = false
+is_accepted = is_ok
 
 -- what g says of the accepted send of slot t, and nothing if there was none
 unfoldable pub picked_at : (SendMade → List ℕ) → List SendMade → ℕ → List ℕ
@@ -36,11 +32,7 @@ message_at = picked_at (λ m. m.call.message)
 
 -- whether a reply is no refusal
 abbrev pub accepts : Reply → Bool
-accepts (reply.Refused c) = false
-accepts reply.NoneYet = true
-accepts reply.Whole = true
-accepts reply.Lost = true
-accepts reply.Clash = true
+accepts = is_ok
 
 -- the accepted report of slot t was this call
 pub record ReportedAs (told : List ReportMade) (t : ℕ) (call : Report) : Type 0 where

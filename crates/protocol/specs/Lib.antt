@@ -4,6 +4,8 @@
 pub mod Lengths
 pub mod Frame
 pub mod Codewords
+-- what the calls answer,
+pub mod Answers
 -- "What is remembered", and demand 2's verdict,
 pub mod States
 pub mod Rows

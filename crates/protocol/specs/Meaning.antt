@@ -9,7 +9,7 @@ use Rattle.code.specs.Word.{OfWord, word_at}
 use Rattle.code.specs.Fitting.{Arrived, fits}
 use Rattle.protocol.specs.declared.Sender.{Sender}
 use Rattle.protocol.specs.declared.Receiver.{Receiver}
-use Rattle.protocol.specs.declared.Reply.{Reply}
+use Rattle.protocol.specs.Answers.{Reply}
 use Rattle.protocol.specs.Lengths.{last_slot, message_len, frame_len, sender_len, row_len, row_count, receiver_len}
 use Rattle.protocol.specs.Frame.{header, remembered}
 use Rattle.protocol.specs.Codewords.{source}

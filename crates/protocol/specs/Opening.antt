@@ -1,9 +1,8 @@
 -- Document 02 §3, as one statement about openings at any slot: the rows by slots and by rows, what the first report tells, and that the
 -- opening at slot 0 is document 01's.
-use Rattle.std.specs.Prelude.{◌≡◌, Bool, cond, List, ℕ, ◌+◌, ◌*◌, ◌%◌, ◌≤◌, ◌<◌, T, ltb, length, get_or, replicate}
+use Rattle.std.specs.Prelude.{◌≡◌, Bool, cond, List, ℕ, ◌+◌, ◌*◌, ◌%◌, ◌≤◌, ◌<◌, T, ltb, length, get_or, replicate, Ok, Err}
 use Rattle.code.specs.declared.settings.Settings.{Settings}
 use Rattle.code.specs.Settings.{accepted, delay_of}
-use Rattle.protocol.specs.declared.Answer.TheVariants as answer
 use Rattle.protocol.specs.Lengths.{last_slot, row_len, row_count, receiver_len}
 use Rattle.protocol.specs.States.{receiver_at, no_receiver}
 use Rattle.protocol.specs.Rows.{joined}
@@ -22,12 +21,12 @@ first_row s slot r = cond (ltb r slot) (replicate (row_len s) 0) (received_zeros
 unfoldable pub open_from_start : Settings → List ℕ → OpenedReceiver
 open_from_start s rows =
     elim (open_cause s (receiver_len s) rows) [
-      | answer.Accepted ↦ record {
-        answer = answer.Accepted;
+      | Ok tt ↦ record {
+        answer = Ok tt;
         receiver = receiver_at s 0 0;
         rows = joined (row_count s) (λ r. received_zeros s);
       }
-      | answer.Refused c ↦ record { answer = answer.Refused c; receiver = no_receiver; rows = rows }
+      | Err c ↦ record { answer = Err c; receiver = no_receiver; rows = rows }
     ]
 
 -- what holds of an opening at any slot

@@ -1,5 +1,5 @@
 -- Document 01, demand 2: what arrived of each codeword that carries a message, and what the receiver says of the message.
-use Rattle.std.specs.Prelude.{Bool, true, false, cond, ◌&&◌, List, ℕ, ◌+◌, ◌-◌, ◌*◌, ◌/◌, ◌%◌, eqb, ltb, get_or, replicate}
+use Rattle.std.specs.Prelude.{Bool, true, false, cond, ◌&&◌, List, ℕ, ◌+◌, ◌-◌, ◌*◌, ◌/◌, ◌%◌, eqb, ltb, get_or, replicate, Ok, Err}
 use Rattle.galois.specs.Bounded.{any}
 use Rattle.code.specs.declared.settings.Settings.{Settings}
 use Rattle.code.specs.Fitting.{Arrived}
@@ -8,8 +8,8 @@ use Rattle.galois.specs.Table.{table}
 use Rattle.elimination.specs.declared.lane.Symbol.{Symbol}
 use Rattle.elimination.specs.declared.lane.Symbol.TheVariants as symbol
 use Rattle.elimination.specs.Values.{values, said}
-use Rattle.protocol.specs.declared.Reply.{Reply}
-use Rattle.protocol.specs.declared.Reply.TheVariants as reply
+use Rattle.protocol.specs.Answers.{Reply}
+use Rattle.protocol.specs.declared.Told.TheVariants.{NoneYet, Whole, Lost, Clash}
 use Rattle.protocol.specs.Lengths.{message_len, row_len, row_count}
 
 -- where the row of slot t + p - i begins, for i below k; slots before 0 included
@@ -63,7 +63,7 @@ some_lost s f = some_codeword s (λ i v. is_lost (f i v))
 
 -- by two tests: a clash if the first passes, else lost if the second does, else whole
 abbrev pub by_tests : Bool → Bool → Reply
-by_tests clash lost = cond clash reply.Clash (cond lost reply.Lost reply.Whole)
+by_tests clash lost = cond clash (Ok Clash) (cond lost (Ok Lost) (Ok Whole))
 
 -- the verdict on it
 abbrev pub verdict_by : Settings → (ℕ → ℕ → Symbol) → Reply
@@ -75,11 +75,11 @@ bytes_by s f = table (message_len s) (λ q. whole_byte (f (q / s.lanes) (q % s.l
 
 -- the message buffer after a reply: its bytes when whole, else zeros
 abbrev pub buffer_by : Settings → (ℕ → ℕ → Symbol) → Reply → List ℕ
-buffer_by s f (reply.Refused c) = replicate (message_len s) 0
-buffer_by s f reply.NoneYet = replicate (message_len s) 0
-buffer_by s f reply.Whole = bytes_by s f
-buffer_by s f reply.Lost = replicate (message_len s) 0
-buffer_by s f reply.Clash = replicate (message_len s) 0
+buffer_by s f (Err c) = replicate (message_len s) 0
+buffer_by s f (Ok NoneYet) = replicate (message_len s) 0
+buffer_by s f (Ok Whole) = bytes_by s f
+buffer_by s f (Ok Lost) = replicate (message_len s) 0
+buffer_by s f (Ok Clash) = replicate (message_len s) 0
 
 -- ---- message t, once the slots below due are reported
 

@@ -1,7 +1,8 @@
-// The states of both ends, and what a call answers. Each call is a definition in specs/, the demands are statements about these
+// The states of both ends, why a call says no, and what it tells. Each call is a definition in specs/, the demands are statements about these
 // definitions, and proofs/ has their theorems.
 #![tactic(auto)]
 
+mod numbers;
 mod states;
 
 use code::Settings;
@@ -43,17 +44,9 @@ pub enum Cause {
     OutOfReach,
 }
 
-// What an opening or a send answers; `answer_number` of specs/Numbers.antt has the numbers.
+// What a report or a look-up that was accepted tells of its message.
 #[derive(Clone, Copy)]
-pub enum Answer {
-    Accepted,
-    Refused(Cause),
-}
-
-// What a report or a look-up answers; `reply_number` of specs/Numbers.antt has the numbers.
-#[derive(Clone, Copy)]
-pub enum Reply {
-    Refused(Cause),
+pub enum Told {
     NoneYet,
     Whole,
     Lost,

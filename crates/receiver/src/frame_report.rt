@@ -4,7 +4,7 @@ ghost use Rattle.protocol.specs.Calls.{heard_of};
 
 use crate::report::{Reported, moved_on, refused};
 use causes::frame_cause;
-use protocol::{Answer, Receiver};
+use protocol::Receiver;
 use ring::record_heard;
 
 // The report of a frame, for the slot due.
@@ -12,8 +12,7 @@ pub fn heard(x: Receiver, rows: &mut [u8], frame: &[u8], message: &mut [u8]) -> 
     ensures { record { reply = result.reply; receiver = result.receiver; rows = rows.new; message = message.new }
         ≡ heard_of x rows.old frame.now message.old }
 {
-    let found = frame_cause(1, x, rows, frame, message);
-    if let Answer::Refused(c) = found {
+    if let Err(c) = frame_cause(1, x, rows, frame, message) {
         return refused(c, x);
     }
     record_heard(rows, frame, x.settings, x.due);

@@ -4,7 +4,7 @@ ghost use Rattle.protocol.specs.Calls.{loss_of};
 
 use crate::report::{Reported, moved_on, refused};
 use causes::loss_cause;
-use protocol::{Answer, Receiver};
+use protocol::Receiver;
 use ring::record_lost;
 
 // The report that the slot due was lost.
@@ -12,8 +12,7 @@ pub fn loss(x: Receiver, rows: &mut [u8], message: &mut [u8]) -> Reported
     ensures { record { reply = result.reply; receiver = result.receiver; rows = rows.new; message = message.new }
         ≡ loss_of x rows.old message.old }
 {
-    let found = loss_cause(x, rows, message);
-    if let Answer::Refused(c) = found {
+    if let Err(c) = loss_cause(x, rows, message) {
         return refused(c, x);
     }
     record_lost(rows, x.settings, x.due);

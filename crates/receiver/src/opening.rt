@@ -6,13 +6,13 @@ use buffers::row_len;
 use causes::open_receiver_cause;
 use code::Settings;
 use ends::opened_receiver;
-use protocol::{Answer, Receiver};
+use protocol::{Cause, Receiver};
 use ring::write_opened;
 
 // What an opening gives back.
 #[derive(Clone, Copy)]
 pub struct Opened {
-    pub answer: Answer,
+    pub answer: Result<(), Cause>,
     pub receiver: Receiver,
 }
 
@@ -22,16 +22,15 @@ pub fn open(s: Settings, slot: u32, rows: &mut [u8]) -> Opened
     ensures { record { answer = result.answer; receiver = result.receiver; rows = rows.new }
         ≡ open_receiver_of s slot rows.old }
 {
-    let found = open_receiver_cause(s, slot, rows);
-    if let Answer::Refused(c) = found {
+    if let Err(c) = open_receiver_cause(s, slot, rows) {
         return Opened {
-            answer: Answer::Refused(c),
+            answer: Err(c),
             receiver: Receiver::NONE,
         };
     }
     write_opened(rows, row_len(s), slot);
     Opened {
-        answer: Answer::Accepted,
+        answer: Ok(()),
         receiver: opened_receiver(s, slot),
     }
 }

@@ -1,27 +1,26 @@
 // What the reports of losses and of frames share.
-ghost use Rattle.std.specs.Prelude.{◌≡◌, ◌≤◌, T, length};
+ghost use Rattle.std.specs.Prelude.{◌≡◌, ◌≤◌, Err, T, length};
 ghost use Rattle.code.specs.Settings.{accepted};
-ghost use Rattle.protocol.specs.declared.Reply.TheVariants as reply;
 ghost use Rattle.protocol.specs.Lengths.{last_slot, message_len, receiver_len};
 ghost use Rattle.protocol.specs.Calls.{told_by};
 
 use buffers::clear;
 use ends::next_receiver;
-use protocol::{Cause, Receiver, Reply};
+use protocol::{Cause, Receiver, Told};
 
 // What a report gives back.
 #[derive(Clone, Copy)]
 pub struct Reported {
-    pub reply: Reply,
+    pub reply: Result<Told, Cause>,
     pub receiver: Receiver,
 }
 
 // A refused report leaves the state as it was.
 pub(crate) fn refused(c: Cause, x: Receiver) -> Reported
-    ensures { result ≡ record { reply = reply.Refused c; receiver = x } }
+    ensures { result ≡ record { reply = Err c; receiver = x } }
 {
     Reported {
-        reply: Reply::Refused(c),
+        reply: Err(c),
         receiver: x,
     }
 }
@@ -39,7 +38,7 @@ pub(crate) fn moved_on(x: Receiver, rows: &[u8], message: &mut [u8]) -> Reported
     if x.due < delay {
         clear(message);
         return Reported {
-            reply: Reply::NoneYet,
+            reply: Ok(Told::NoneYet),
             receiver: next,
         };
     }

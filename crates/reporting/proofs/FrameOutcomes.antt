@@ -1,4 +1,5 @@
 -- What each way out of a step at a frame gives back, by the tests before it.
+use Rattle.std.specs.Prelude.{Ok, Err}
 use mathlib.Core.Path.{◌≡◌, refl, sym}
 use mathlib.Core.Bool.{Bool, true, false, cond}
 use mathlib.Core.List.{List}
@@ -8,7 +9,6 @@ use lib.ListN.{length}
 use borrow.Author.Tests.{lt-ltb, le-ltb, leb-true, leb-false}
 use Rattle.protocol.specs.declared.Receiver.{Receiver}
 use Rattle.protocol.specs.declared.Cause.{Cause}
-use Rattle.protocol.specs.declared.Answer.TheVariants as answer
 use Rattle.protocol.specs.Calls.{Reported, message_due}
 use Rattle.protocol.specs.TwoLists.{report_of}
 use Rattle.terminal.specs.Given.{report_in}
@@ -23,13 +23,13 @@ use Rattle.reporting.specs.Outcomes.{printed_on}
 -- ---- at a frame
 
 module _ (p : Player) (frame : List ℕ) (end : ℕ) (rows message : List ℕ) where
-  pub frame_stops : (c : Cause) → frame_stop p.receiver frame ≡ answer.Refused c
+  pub frame_stops : (c : Cause) → frame_stop p.receiver frame ≡ Err c
       → stop_act p rows message c ≡ frame_act p frame end rows message
   unfolding frame_act
   frame_stops c e = rw (e, frame_act)
 
   -- one that passes is reported where its slot is due, else the slot due is a loss
-  pub frame_reports : frame_stop p.receiver frame ≡ answer.Accepted → (heard : Bool) → heard ≡ leb (slot_in frame) p.receiver.due
+  pub frame_reports : frame_stop p.receiver frame ≡ Ok tt → (heard : Bool) → heard ≡ leb (slot_in frame) p.receiver.due
       → report_act p.receiver (cond heard end p.offset) (report_of p.receiver rows (report_in heard frame message))
       ≡ frame_act p frame end rows message
   unfolding frame_act report_of report_in

@@ -1,8 +1,7 @@
 -- What a step comes to at a frame, as a function of the player, its rows and its message buffer.
-use Rattle.std.specs.Prelude.{Bool, true, false, List, ℕ, ltb}
+use Rattle.std.specs.Prelude.{Bool, true, false, List, ℕ, ltb, Ok, Err}
 use Rattle.protocol.specs.declared.Receiver.{Receiver}
 use Rattle.protocol.specs.declared.Cause.{Cause}
-use Rattle.protocol.specs.declared.Answer.TheVariants as answer
 use Rattle.protocol.specs.Calls.{Reported, message_due, loss_of, heard_of}
 use Rattle.lines.specs.Text.{stop_line, line_of}
 use Rattle.frames.specs.Fields.{slot_in}
@@ -38,8 +37,8 @@ unfoldable pub frame_act : Player → List ℕ → ℕ → List ℕ → List ℕ
 frame_act p frame end rows message =
     let x : Receiver = p.receiver in
     elim (frame_stop x frame) [
-      | answer.Refused c ↦ stop_act p rows message c
-      | answer.Accepted ↦ elim (ltb x.due (slot_in frame)) [
+      | Err c ↦ stop_act p rows message c
+      | Ok tt ↦ elim (ltb x.due (slot_in frame)) [
         | true ↦ report_act x p.offset (loss_of x rows message)
         | false ↦ report_act x end (heard_of x rows frame message)
       ]

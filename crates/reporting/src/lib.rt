@@ -7,7 +7,6 @@ ghost use Rattle.reporting.specs.Outcomes.{outcome, printed_on};
 
 use frames::slot_of;
 use progress::{Player, Progress, stopped, told};
-use protocol::Answer;
 use stops::stop_of;
 use terminal::report_kept;
 
@@ -35,8 +34,7 @@ pub fn at_frame(
         ≡ printed_on line.old (frame_act p frame.now end rows.old message.old) }
 {
     let x = p.receiver;
-    let stop = stop_of(x, frame);
-    if let Answer::Refused(c) = stop {
+    if let Err(c) = stop_of(x, frame) {
         return stopped(p, c, line);
     }
     let heard = slot_of(frame) <= x.due;

@@ -1,26 +1,25 @@
 // The sender's two calls. Each takes any input at all, and a refused call changes nothing.
-ghost use Rattle.std.specs.Prelude.{◌≡◌};
+ghost use Rattle.std.specs.Prelude.{◌≡◌, Err};
 ghost use Rattle.protocol.specs.Calls.{open_sender_of, send_of};
-ghost use Rattle.protocol.specs.declared.Answer.TheVariants.{Refused};
 
 use buffers::{clear, sender_len};
 use causes::{open_cause, send_cause};
 use code::Settings;
 use ends::{next_sender, opened_sender};
 use framing::{remember, write_frame};
-use protocol::{Answer, Cause, Sender};
+use protocol::{Cause, Sender};
 
 // What an opening gives back.
 #[derive(Clone, Copy)]
 pub struct Opened {
-    pub answer: Answer,
+    pub answer: Result<(), Cause>,
     pub sender: Sender,
 }
 
 // What a send gives back.
 #[derive(Clone, Copy)]
 pub struct Sent {
-    pub answer: Answer,
+    pub answer: Result<(), Cause>,
     pub sender: Sender,
 }
 
@@ -28,26 +27,25 @@ pub struct Sent {
 pub fn open(s: Settings, rows: &mut [u8]) -> Opened
     ensures { record { answer = result.answer; sender = result.sender; rows = rows.new } ≡ open_sender_of s rows.old }
 {
-    let found = open_cause(s, sender_len(s), rows);
-    if let Answer::Refused(c) = found {
+    if let Err(c) = open_cause(s, sender_len(s), rows) {
         return Opened {
-            answer: Answer::Refused(c),
+            answer: Err(c),
             sender: Sender::NONE,
         };
     }
     clear(rows);
     Opened {
-        answer: Answer::Accepted,
+        answer: Ok(()),
         sender: opened_sender(s),
     }
 }
 
 // A refused send leaves the state as it was.
 fn refused(c: Cause, x: Sender) -> Sent
-    ensures { result ≡ record { answer = Refused c; sender = x } }
+    ensures { result ≡ record { answer = Err c; sender = x } }
 {
     Sent {
-        answer: Answer::Refused(c),
+        answer: Err(c),
         sender: x,
     }
 }
@@ -57,16 +55,14 @@ pub fn send(x: Sender, rows: &mut [u8], message: &[u8], frame: &mut [u8]) -> Sen
     ensures { record { answer = result.answer; sender = result.sender; rows = rows.new; frame = frame.new }
         ≡ send_of x rows.old message.now frame.old }
 {
-    let found = send_cause(x, rows, message, frame);
-    if let Answer::Refused(c) = found {
+    if let Err(c) = send_cause(x, rows, message, frame) {
         return refused(c, x);
     }
     let s = x.settings;
     write_frame(frame, rows, message, 1, s, x.due);
     remember(rows, message, s, x.due);
-    let next = next_sender(x);
     Sent {
-        answer: Answer::Accepted,
-        sender: next,
+        answer: Ok(()),
+        sender: next_sender(x),
     }
 }

@@ -1,4 +1,5 @@
 -- What is read back from a state that was written, and what the causes of a state say.
+use Rattle.std.specs.Prelude.{Ok}
 use mathlib.Core.Path.{◌≡◌, refl}
 use mathlib.Core.Bool.{true}
 use mathlib.Core.List.{List}
@@ -15,7 +16,6 @@ use Rattle.protocol.specs.declared.Receiver.{Receiver}
 use Rattle.protocol.specs.declared.Cause.TheVariants.{BadLength}
 use Rattle.protocol.specs.Lengths.{last_slot}
 use Rattle.protocol.specs.Frame.{five, slot_bytes}
-use Rattle.protocol.specs.declared.Answer.TheVariants as answer
 use Rattle.protocol.specs.Causes.{agree}
 use Rattle.protocol.proofs.CauseTables.{none_holds, passes}
 use Rattle.frames.specs.Fields.{settings_at, slot_at}
@@ -43,7 +43,7 @@ module _ (end : ℕ) (s : Settings) (due opening : ℕ) where
   marked = rw (eq-eqb end end refl) refl
 
   -- so a state that was written gives no cause
-  pub state_uncaused : state_cause end (state_bytes end s due opening) ≡ answer.Accepted
+  pub state_uncaused : state_cause end (state_bytes end s due opening) ≡ Ok tt
   unfolding state_cause
   state_uncaused = rw (eq-eqb _ _ (length-state end s due opening), marked)
 
@@ -68,7 +68,7 @@ receiver_in_state x begun few =
 -- ---- the causes that a state gives
 
 -- a state that gives none has its length
-pub uncaused_length : (end : ℕ) (state : List ℕ) → state_cause end state ≡ answer.Accepted → length state ≡ state_len
+pub uncaused_length : (end : ℕ) (state : List ℕ) → state_cause end state ≡ Ok tt → length state ≡ state_len
 unfolding state_cause
 uncaused_length end state none =
     eqb→eq (length state) state_len (passes (eqb (length state) state_len) (none_holds (state_table end state) none BadLength))

@@ -7,7 +7,7 @@ use Rattle.protocol.specs.declared.Receiver.{Receiver}
 use Rattle.protocol.specs.declared.Cause.TheVariants.{BadSettings, BadLength}
 use Rattle.protocol.specs.States.{sender_at, receiver_at}
 use Rattle.protocol.specs.Frame.{five, slot_bytes}
-use Rattle.protocol.specs.declared.Answer.{Answer}
+use Rattle.protocol.specs.Answers.{Answer}
 use Rattle.protocol.specs.Causes.{Row, row, first_of, agree}
 use Rattle.frames.specs.Fields.{settings_at, slot_at}
 

@@ -4,7 +4,7 @@ ghost use Rattle.state.specs.State.{either_mark, due_read_cause};
 
 use crate::{RECEIVER_END, SENDER_END, STATE_LEN, is_marked};
 use frames::settings_at;
-use protocol::{Answer, Cause};
+use protocol::Cause;
 
 // Whether the bytes begin with the mark of either end.
 fn is_either(bytes: &[u8]) -> bool
@@ -15,17 +15,17 @@ fn is_either(bytes: &[u8]) -> bool
 }
 
 // The first cause for which the slot due is not read from these bytes: their length, or that they are no state.
-pub fn due_read_cause(state: &[u8]) -> Answer
+pub fn due_read_cause(state: &[u8]) -> Result<(), Cause>
     ensures { result ≡ due_read_cause state.now }
 {
     if state.len() != STATE_LEN {
-        return Answer::Refused(Cause::BadLength);
+        return Err(Cause::BadLength);
     }
     if !is_either(state) {
-        return Answer::Refused(Cause::BadSettings);
+        return Err(Cause::BadSettings);
     }
     if !settings_at(state, 4).accepted() {
-        return Answer::Refused(Cause::BadSettings);
+        return Err(Cause::BadSettings);
     }
-    Answer::Accepted
+    Ok(())
 }

@@ -12,7 +12,7 @@ use code::Settings;
 pub use due::due_read_cause;
 use ends::{receiver_at, sender_at};
 use frames::{settings_at, settings_bytes, slot_at};
-use protocol::{Answer, Cause, Receiver, Sender};
+use protocol::{Cause, Receiver, Sender};
 
 // The length of a state, of either end.
 pub const STATE_LEN: usize = 20;
@@ -55,16 +55,16 @@ fn is_marked(end: u8, bytes: &[u8]) -> bool
 }
 
 // The first cause that a state of this end gives, before those of the call on what it keeps.
-pub fn state_cause(end: u8, state: &[u8]) -> Answer
+pub fn state_cause(end: u8, state: &[u8]) -> Result<(), Cause>
     ensures { result ≡ state_cause end state.now }
 {
     if state.len() != STATE_LEN {
-        return Answer::Refused(Cause::BadLength);
+        return Err(Cause::BadLength);
     }
     if !is_marked(end, state) {
-        return Answer::Refused(Cause::BadSettings);
+        return Err(Cause::BadSettings);
     }
-    Answer::Accepted
+    Ok(())
 }
 
 // A state, part by part.

@@ -1,4 +1,5 @@
 -- What one step comes to, by what stands at the player's offset; and the receiver that a report leaves where it isn't refused.
+use Rattle.std.specs.Prelude.{Ok, Err}
 use mathlib.Core.Path.{◌≡◌, refl}
 use mathlib.Core.Bool.{Bool, true, false}
 use mathlib.Core.List.{List, ◌∷◌}
@@ -12,8 +13,7 @@ use Rattle.protocol.specs.declared.Receiver.{Receiver}
 use Rattle.protocol.specs.declared.Cause.{Cause}
 use Rattle.protocol.specs.declared.Cause.TheVariants.{BadLength}
 use Rattle.protocol.specs.Lengths.{frame_len, row_len}
-use Rattle.protocol.specs.declared.Answer.{Answer}
-use Rattle.protocol.specs.declared.Answer.TheVariants as answer
+use Rattle.protocol.specs.Answers.{Answer}
 use Rattle.protocol.specs.States.{reported_on}
 use Rattle.protocol.specs.Causes.{loss_cause, frame_cause}
 use Rattle.protocol.specs.Calls.{moved_on, loss_of, heard_of}
@@ -46,8 +46,8 @@ pub loss_onward : (x : Receiver) (rows message : List ℕ) → refuses (loss_of 
 loss_onward x rows message e = go (loss_cause x rows message) refl
   where
     go : (f : Answer) → loss_cause x rows message ≡ f → (loss_of x rows message).receiver ≡ reported_on x
-    go answer.Accepted is = rw (loss_moves x rows message is) (moved_onward x (replicate (row_len x.settings) 0) rows)
-    go (answer.Refused c) is =
+    go (Ok tt) is = rw (loss_moves x rows message is) (moved_onward x (replicate (row_len x.settings) 0) rows)
+    go (Err c) is =
         let no : true ≡ false = rw (loss_stays x rows message c is) at e in
         let z : ◌≡◌ {A = ℕ} 0 1 = cc in absurd (omega arith)
 
@@ -57,8 +57,8 @@ pub heard_onward : (x : Receiver) (rows frame message : List ℕ) → refuses (h
 heard_onward x rows frame message e = go (frame_cause x rows frame message) refl
   where
     go : (f : Answer) → frame_cause x rows frame message ≡ f → (heard_of x rows frame message).receiver ≡ reported_on x
-    go answer.Accepted is = rw (heard_moves x rows frame message is) (moved_onward x (1 ∷ drop 14 frame) rows)
-    go (answer.Refused c) is =
+    go (Ok tt) is = rw (heard_moves x rows frame message is) (moved_onward x (1 ∷ drop 14 frame) rows)
+    go (Err c) is =
         let no : true ≡ false = rw (heard_stays x rows frame message c is) at e in
         let z : ◌≡◌ {A = ℕ} 0 1 = cc in absurd (omega arith)
 
@@ -97,19 +97,19 @@ module _ (recording : List ℕ) (p : Player) (fits : p.offset + frame_len p.rece
       rw (frame_stands recording p.offset size (frame_some p.receiver.settings) fits, act_of, same)
 
   -- a frame that stops the player
-  pub act_stop : (c : Cause) → frame_stop p.receiver (frame_at recording p) ≡ answer.Refused c
+  pub act_stop : (c : Cause) → frame_stop p.receiver (frame_at recording p) ≡ Err c
       → act_of p recording rows message ≡ stop_act p rows message c
   unfolding frame_act
   act_stop c e = rw (act_frame, frame_act, e)
 
   -- a frame above the slot due: the slot due is a loss
-  pub act_loss : frame_stop p.receiver (frame_at recording p) ≡ answer.Accepted → p.receiver.due < slot_in (frame_at recording p)
+  pub act_loss : frame_stop p.receiver (frame_at recording p) ≡ Ok tt → p.receiver.due < slot_in (frame_at recording p)
       → act_of p recording rows message ≡ report_act p.receiver p.offset (loss_of p.receiver rows message)
   unfolding frame_act
   act_loss e above = rw (act_frame, frame_act, e, lt-ltb p.receiver.due (slot_in (frame_at recording p)) above)
 
   -- a frame at the slot due: it is reported
-  pub act_heard : frame_stop p.receiver (frame_at recording p) ≡ answer.Accepted → slot_in (frame_at recording p) ≤ p.receiver.due
+  pub act_heard : frame_stop p.receiver (frame_at recording p) ≡ Ok tt → slot_in (frame_at recording p) ≤ p.receiver.due
       → act_of p recording rows message
       ≡ report_act p.receiver (p.offset + frame_len p.receiver.settings) (heard_of p.receiver rows (frame_at recording p) message)
   unfolding frame_act
@@ -120,7 +120,7 @@ module _ (recording : List ℕ) (p : Player) (fits : p.offset + frame_len p.rece
 module _ (p : Player) (recording rows message : List ℕ) (Q : Act → Type 0)
     (ended : Q (end_act p rows message))
     (stopped : (c : Cause) → Q (stop_act p rows message c))
-    (lost : frame_stop p.receiver (frame_at recording p) ≡ answer.Accepted → p.receiver.due < slot_in (frame_at recording p)
+    (lost : frame_stop p.receiver (frame_at recording p) ≡ Ok tt → p.receiver.due < slot_in (frame_at recording p)
     → Q (report_act p.receiver p.offset (loss_of p.receiver rows message)))
     (heard : p.offset + frame_len p.receiver.settings ≤ length recording
     → Q (report_act p.receiver (p.offset + frame_len p.receiver.settings) (heard_of p.receiver rows (frame_at recording p) message))) where
@@ -128,11 +128,11 @@ module _ (p : Player) (recording rows message : List ℕ) (Q : Act → Type 0)
   at_frame : p.offset + frame_len p.receiver.settings ≤ length recording
       → (f : Answer) → frame_stop p.receiver (frame_at recording p) ≡ f
       → (b : Bool) → ltb p.receiver.due (slot_in (frame_at recording p)) ≡ b → Q (act_of p recording rows message)
-  at_frame fits (answer.Refused c) e b test = rw (act_stop recording p fits rows message c e) (stopped c)
-  at_frame fits answer.Accepted e true test =
+  at_frame fits (Err c) e b test = rw (act_stop recording p fits rows message c e) (stopped c)
+  at_frame fits (Ok tt) e true test =
       let above : p.receiver.due < slot_in (frame_at recording p) = ltb-true p.receiver.due (slot_in (frame_at recording p)) test in
       rw (act_loss recording p fits rows message e above) (lost e above)
-  at_frame fits answer.Accepted e false test =
+  at_frame fits (Ok tt) e false test =
       let reached : slot_in (frame_at recording p) ≤ p.receiver.due = ltb-false p.receiver.due (slot_in (frame_at recording p)) test in
       rw (act_heard recording p fits rows message e reached) (heard fits)
 

@@ -1,4 +1,5 @@
 -- How a recording starts, by the tests before any line.
+use Rattle.std.specs.Prelude.{Ok, Err}
 use mathlib.Core.Path.{◌≡◌, refl, ap, subst}
 use mathlib.Core.Bool.{Bool, true, false}
 use mathlib.Core.Logic.{◌≢◌}
@@ -13,8 +14,7 @@ use Rattle.code.specs.Settings.{accepted}
 use Rattle.protocol.specs.declared.Cause.{Cause}
 use Rattle.protocol.specs.declared.Cause.TheVariants.{BadSettings, BadLength}
 use Rattle.protocol.specs.Lengths.{frame_len}
-use Rattle.protocol.specs.declared.Answer.{Answer}
-use Rattle.protocol.specs.declared.Answer.TheVariants as answer
+use Rattle.protocol.specs.Answers.{Answer}
 use Rattle.protocol.specs.Causes.{Row, first_of}
 use Rattle.protocol.proofs.CauseTables.{check_clear, passes, fails}
 use Rattle.frames.specs.Fields.{settings_in}
@@ -28,7 +28,7 @@ module _ (recording : List ℕ) where
   starts_empty e = rw (eq-eqb (length recording) 0 e, start_of)
 
   module _ (some : length recording ≢ 0) where
-    stops : (c : Cause) → recording_cause recording ≡ answer.Refused c → Stop c ≡ start_of recording
+    stops : (c : Cause) → recording_cause recording ≡ Err c → Stop c ≡ start_of recording
     unfolding start_of
     stops c e = rw (ne_eqb (length recording) 0 some, e, start_of)
 
@@ -60,7 +60,7 @@ module _ (recording : List ℕ) where
               ))
 
           -- a whole number of frames
-          whole : length recording % frame_len (settings_in recording) ≡ 0 → recording_cause recording ≡ answer.Accepted
+          whole : length recording % frame_len (settings_in recording) ≡ 0 → recording_cause recording ≡ Ok tt
           unfolding recording_cause
           whole e =
               rw (
@@ -82,12 +82,12 @@ AllClear [] = Unit {0}
 AllClear (r ∷ rs) = (r.holds ≡ false) × AllClear rs
 
 -- where it finds no cause
-all-clear : (rs : List Row) → first_of rs ≡ answer.Accepted → AllClear rs
+all-clear : (rs : List Row) → first_of rs ≡ Ok tt → AllClear rs
 all-clear [] e = tt
 all-clear (r ∷ rs) e = let x = check_clear r.holds r.why (first_of rs) e in (x.0, all-clear rs x.1)
 
 -- it has accepted settings, and is whole frames
-pub passed : (recording : List ℕ) → recording_cause recording ≡ answer.Accepted
+pub passed : (recording : List ℕ) → recording_cause recording ≡ Ok tt
     → T (accepted (settings_in recording)) × (length recording % frame_len (settings_in recording) ≡ 0)
 unfolding recording_cause
 passed recording e =
@@ -110,9 +110,9 @@ play_accepted recording s e = go (eqb (length recording) 0) refl (recording_caus
     go true none f found =
         let no : Empty ≡ Play s = rw (none, start_of) at e in
         let z : ◌≡◌ {A = ℕ} 0 1 = cc in absurd (omega arith)
-    go false some (answer.Refused c) found =
+    go false some (Err c) found =
         let no : Stop c ≡ Play s = rw (some, found, start_of) at e in
         let z : ◌≡◌ {A = ℕ} 0 1 = cc in absurd (omega arith)
-    go false some answer.Accepted found =
+    go false some (Ok tt) found =
         let own : Play (settings_in recording) ≡ Play s = rw (some, found, start_of) at e in
         subst (λ (t : Settings). T (accepted t)) (ap (settings_of s) own) (passed recording found).0

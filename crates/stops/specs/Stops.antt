@@ -1,10 +1,9 @@
 -- Document 01, "Playing a recording": what stops a player before any line, and at a frame.
-use Rattle.std.specs.Prelude.{true, false, not, ◌||◌, List, [], ◌∷◌, ◌++◌, ℕ, ◌+◌, ◌%◌, eqb, ltb, length}
+use Rattle.std.specs.Prelude.{true, false, not, ◌||◌, List, [], ◌∷◌, ◌++◌, ℕ, ◌+◌, ◌%◌, eqb, ltb, length, Ok, Err}
 use Rattle.code.specs.Settings.{accepted}
 use Rattle.protocol.specs.declared.Receiver.{Receiver}
 use Rattle.protocol.specs.declared.Cause.TheVariants.{BadSettings, BadLength, OtherSlot}
-use Rattle.protocol.specs.declared.Answer.{Answer}
-use Rattle.protocol.specs.declared.Answer.TheVariants.{Accepted, Refused}
+use Rattle.protocol.specs.Answers.{Answer}
 use Rattle.protocol.specs.Lengths.{frame_len}
 use Rattle.protocol.specs.Causes.{Row, row, first_of, header_table}
 use Rattle.frames.specs.Fields.{settings_in, slot_in}
@@ -32,8 +31,8 @@ start_of recording =
     elim (eqb (length recording) 0) [
       | true ↦ Empty
       | false ↦ elim (recording_cause recording) [
-        | Refused c ↦ Stop c
-        | Accepted ↦ Play (settings_in recording)
+        | Err c ↦ Stop c
+        | Ok tt ↦ Play (settings_in recording)
       ]
     ]
 

@@ -3,27 +3,24 @@ ghost use Rattle.std.specs.Prelude.{◌≡◌, ◌≤◌, length};
 ghost use Rattle.stops.specs.Stops.{frame_stop};
 
 use frames::{header_cause, slot_of};
-use protocol::{Answer, Cause, Receiver};
+use protocol::{Cause, Receiver};
 
 // How many slots a frame may skip.
 const LONGEST_GAP: u32 = 4095;
 
 // The cause for which a frame stops the player, if there is one.
-pub fn stop_of(x: Receiver, frame: &[u8]) -> Answer
+pub fn stop_of(x: Receiver, frame: &[u8]) -> Result<(), Cause>
     requires { 14 ≤ length frame.now }
     ensures { result ≡ frame_stop x frame.now }
 {
     let s = x.settings;
-    let found = header_cause(1, s, frame);
-    if let Answer::Refused(c) = found {
-        return Answer::Refused(c);
-    }
+    header_cause(1, s, frame)?;
     let slot = slot_of(frame);
     if slot < x.due {
-        return Answer::Refused(Cause::OtherSlot);
+        return Err(Cause::OtherSlot);
     }
     if LONGEST_GAP < slot - x.due {
-        return Answer::Refused(Cause::OtherSlot);
+        return Err(Cause::OtherSlot);
     }
-    Answer::Accepted
+    Ok(())
 }

@@ -5,7 +5,7 @@ ghost use Rattle.std.specs.Prelude.{◌≡◌};
 ghost use Rattle.protocol.specs.TwoLists.{report_of};
 ghost use Rattle.terminal.specs.Given.{report_in};
 
-use protocol::{Receiver, Reply};
+use protocol::{Cause, Receiver, Told};
 use receiver::Reported;
 
 // A report by value: of a frame where `heard`, else of a loss, which has no frame to read.
@@ -27,7 +27,7 @@ pub fn report(
     heard: bool,
     frame: &[u8],
     message: &mut [u8],
-) -> Reply
+) -> Result<Told, Cause>
     ensures { record { reply = result; receiver = x.new; rows = rows.new; message = message.new }
         ≡ report_of x.old rows.old (report_in heard frame.now message.old) }
 {

@@ -3,10 +3,8 @@ ghost use Rattle.std.specs.Prelude.{◌≡◌};
 ghost use Rattle.library.specs.Calls.{open_sender_bytes, open_receiver_bytes};
 
 use causes::open_cause;
-use ends::number_of;
 use frames::settings_at;
 use layout::save_answer;
-use protocol::Answer;
 use state::{STATE_LEN, receiver_bytes, sender_bytes};
 
 // Opens a sender: writes its state and zeroes its rows.
@@ -16,14 +14,11 @@ pub extern "C" fn tob_open_sender(settings: &[u8; 5], state: &mut [u8], rows: &m
         ≡ open_sender_bytes settings.now state.old rows.old }
 {
     let s = settings_at(settings, 0);
-    let found = open_cause(s, STATE_LEN, state);
-    if let Answer::Refused(c) = found {
-        return number_of(c);
+    if let Err(c) = open_cause(s, STATE_LEN, state) {
+        return u32::from(c);
     }
     let r = sender::open(s, rows);
-    let answer = r.answer;
-    let x = r.sender;
-    save_answer(answer, sender_bytes(x), state)
+    save_answer(r.answer, sender_bytes(r.sender), state)
 }
 
 // Opens a receiver at slot 0.
@@ -47,12 +42,9 @@ pub extern "C" fn tob_open_receiver_at(
         ≡ open_receiver_bytes settings.now slot state.old rows.old }
 {
     let s = settings_at(settings, 0);
-    let found = open_cause(s, STATE_LEN, state);
-    if let Answer::Refused(c) = found {
-        return number_of(c);
+    if let Err(c) = open_cause(s, STATE_LEN, state) {
+        return u32::from(c);
     }
     let r = receiver::open(s, slot, rows);
-    let answer = r.answer;
-    let x = r.receiver;
-    save_answer(answer, receiver_bytes(x), state)
+    save_answer(r.answer, receiver_bytes(r.receiver), state)
 }

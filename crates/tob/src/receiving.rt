@@ -2,9 +2,7 @@
 ghost use Rattle.std.specs.Prelude.{◌≡◌};
 ghost use Rattle.library.specs.Calls.{heard_bytes, lost_bytes, look_up_bytes};
 
-use ends::number_of;
 use layout::{reply_number, save_reply};
-use protocol::Answer;
 use state::{RECEIVER_END, receiver_bytes, receiver_in, state_cause};
 
 // The report of a frame, for the slot due.
@@ -18,14 +16,11 @@ pub extern "C" fn tob_heard(
     ensures { record { reply = result; state = state.new; rows = rows.new; message = message.new }
         ≡ heard_bytes state.old rows.old frame.now message.old }
 {
-    let found = state_cause(RECEIVER_END, state);
-    if let Answer::Refused(c) = found {
-        return number_of(c);
+    if let Err(c) = state_cause(RECEIVER_END, state) {
+        return u32::from(c);
     }
     let r = receiver::heard(receiver_in(state), rows, frame, message);
-    let reply = r.reply;
-    let x = r.receiver;
-    save_reply(reply, receiver_bytes(x), state)
+    save_reply(r.reply, receiver_bytes(r.receiver), state)
 }
 
 // The report that the slot due was lost.
@@ -34,14 +29,11 @@ pub extern "C" fn tob_lost(state: &mut [u8], rows: &mut [u8], message: &mut [u8]
     ensures { record { reply = result; state = state.new; rows = rows.new; message = message.new }
         ≡ lost_bytes state.old rows.old message.old }
 {
-    let found = state_cause(RECEIVER_END, state);
-    if let Answer::Refused(c) = found {
-        return number_of(c);
+    if let Err(c) = state_cause(RECEIVER_END, state) {
+        return u32::from(c);
     }
     let r = receiver::loss(receiver_in(state), rows, message);
-    let reply = r.reply;
-    let x = r.receiver;
-    save_reply(reply, receiver_bytes(x), state)
+    save_reply(r.reply, receiver_bytes(r.receiver), state)
 }
 
 // Tells of the message with this number by the slots reported so far. State and rows are lent to read.
@@ -50,9 +42,8 @@ pub extern "C" fn tob_look_up(state: &[u8], rows: &[u8], number: i64, message: &
     ensures { record { reply = result; message = message.new }
         ≡ look_up_bytes state.now rows.now number message.old }
 {
-    let found = state_cause(RECEIVER_END, state);
-    if let Answer::Refused(c) = found {
-        return number_of(c);
+    if let Err(c) = state_cause(RECEIVER_END, state) {
+        return u32::from(c);
     }
     reply_number(receiver::look_up(receiver_in(state), rows, number, message))
 }

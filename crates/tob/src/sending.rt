@@ -2,9 +2,7 @@
 ghost use Rattle.std.specs.Prelude.{◌≡◌};
 ghost use Rattle.library.specs.Calls.{send_bytes};
 
-use ends::number_of;
 use layout::save_answer;
-use protocol::Answer;
 use state::{SENDER_END, sender_bytes, sender_in, state_cause};
 
 // Hands out the frame of the slot due, and remembers the message.
@@ -18,12 +16,9 @@ pub extern "C" fn tob_send(
     ensures { record { reply = result; state = state.new; rows = rows.new; frame = frame.new }
         ≡ send_bytes state.old rows.old message.now frame.old }
 {
-    let found = state_cause(SENDER_END, state);
-    if let Answer::Refused(c) = found {
-        return number_of(c);
+    if let Err(c) = state_cause(SENDER_END, state) {
+        return u32::from(c);
     }
     let r = sender::send(sender_in(state), rows, message, frame);
-    let answer = r.answer;
-    let x = r.sender;
-    save_answer(answer, sender_bytes(x), state)
+    save_answer(r.answer, sender_bytes(r.sender), state)
 }

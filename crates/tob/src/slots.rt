@@ -2,9 +2,7 @@
 ghost use Rattle.std.specs.Prelude.{◌≡◌};
 ghost use Rattle.library.specs.Calls.{slot_due_bytes, frame_slot_bytes};
 
-use ends::number_of;
 use frames::{slot_at, slot_of, slot_read_cause};
-use protocol::Answer;
 use state::due_read_cause;
 
 // The slot due of the state of either end.
@@ -12,9 +10,8 @@ use state::due_read_cause;
 pub extern "C" fn tob_slot_due(state: &[u8], slot: &mut u32) -> u32
     ensures { record { reply = result; slot = slot.new } ≡ slot_due_bytes state.now slot.old }
 {
-    let found = due_read_cause(state);
-    if let Answer::Refused(c) = found {
-        return number_of(c);
+    if let Err(c) = due_read_cause(state) {
+        return u32::from(c);
     }
     *slot = slot_at(state, 9);
     0
@@ -25,9 +22,8 @@ pub extern "C" fn tob_slot_due(state: &[u8], slot: &mut u32) -> u32
 pub extern "C" fn tob_frame_slot(frame: &[u8], slot: &mut u32) -> u32
     ensures { record { reply = result; slot = slot.new } ≡ frame_slot_bytes frame.now slot.old }
 {
-    let found = slot_read_cause(frame);
-    if let Answer::Refused(c) = found {
-        return number_of(c);
+    if let Err(c) = slot_read_cause(frame) {
+        return u32::from(c);
     }
     *slot = slot_of(frame);
     0

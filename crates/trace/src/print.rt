@@ -2,9 +2,8 @@
 ghost use Rattle.std.specs.Prelude.{◌<◌};
 
 use code::Settings;
-use ends::number_of;
 use output::Output;
-use protocol::{Answer, Receiver, Reply, Sender};
+use protocol::{Cause, Receiver, Sender, Told};
 use std::io::Write;
 
 // A number.
@@ -36,33 +35,33 @@ fn receiver_state<W: Write>(out: &mut Output<W>, x: Receiver) {
 }
 
 // The outcome of an opening or a send.
-fn answer<W: Write>(out: &mut Output<W>, a: Answer) {
+fn answer<W: Write>(out: &mut Output<W>, a: Result<(), Cause>) {
     match a {
-        Answer::Accepted => {
+        Ok(()) => {
             out.put(b" ok");
         }
-        Answer::Refused(c) => {
-            number(out, number_of(c) as u64);
+        Err(c) => {
+            number(out, u32::from(c) as u64);
         }
     }
 }
 
 // The outcome of a report.
-fn reply<W: Write>(out: &mut Output<W>, a: Reply) {
+fn reply<W: Write>(out: &mut Output<W>, a: Result<Told, Cause>) {
     match a {
-        Reply::Refused(c) => {
-            number(out, number_of(c) as u64);
+        Err(c) => {
+            number(out, u32::from(c) as u64);
         }
-        Reply::NoneYet => {
+        Ok(Told::NoneYet) => {
             out.put(b" none");
         }
-        Reply::Whole => {
+        Ok(Told::Whole) => {
             out.put(b" whole");
         }
-        Reply::Lost => {
+        Ok(Told::Lost) => {
             out.put(b" lost");
         }
-        Reply::Clash => {
+        Ok(Told::Clash) => {
             out.put(b" clash");
         }
     }

@@ -1,10 +1,11 @@
 -- Each way out is one case of the decision.
+use Rattle.std.specs.Prelude.{Ok}
 use mathlib.Core.Path.{◌≡◌, sym, ap, ◌∙◌, subst⁻¹}
 use native.Mathlib.Omega.{arith}
 use lib.Dec.{T}
 use lib.ListN.{length}
 use Rattle.code.specs.Settings.{accepted}
-use Rattle.protocol.specs.declared.Reply.{Reply}
+use Rattle.protocol.specs.Answers.{Reply}
 use Rattle.protocol.specs.Lengths.{message_len, receiver_len}
 use Rattle.protocol.specs.Verdict.{buffer_of}
 use Rattle.decision.proofs.CallOutcomes.{outcome, bad_settings, bad_rows, bad_message, taken}
@@ -42,6 +43,6 @@ returns c =
     let passed : T (accepted c.args.s) = subst⁻¹ T (sym c.accepted.ensures ∙ c.if-not-accepted.false) tt in
     let full : length c.args.rows.now ≡ receiver_len c.args.s = c.if-rows-receiver_len.false ∙ c.receiver_len.ensures in
     let fits : length c.args.message.now ≡ message_len c.args.s = c.if-message-message_len.false ∙ c.message_len.ensures in
-    ap (outcome c.decided.result) c.decided.ensures.message
+    ap (outcome (Ok c.decided.result)) c.decided.ensures.message
     ∙ ap (λ (r : Reply). outcome r (buffer_of c.args.s c.args.rows.now c.args.due c.args.t r)) c.decided.ensures.said
     ∙ taken c.args.s c.args.rows.now c.args.due c.args.t c.args.message.now (passed) (full) (fits)

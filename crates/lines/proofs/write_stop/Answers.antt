@@ -6,4 +6,4 @@ use Rattle.lines.proofs.write_stop.Goals as goal
 
 pub returns : goal.returns
 returns c =
-    c.write_stop_number.ensures ∙ ap (λ (n : ℕ). stop_text_on n c.args.line.now) c.number_of.ensures
+    c.write_stop_number.ensures ∙ ap (λ (n : ℕ). stop_text_on n c.args.line.now) c.from.ensures

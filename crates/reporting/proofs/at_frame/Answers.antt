@@ -14,13 +14,13 @@ use Rattle.reporting.proofs.at_frame.Goals as goal
 fits_kept : (before after line : List ℕ) → length after ≡ length before → 18 + 2 * length before ≤ length line → 18 + 2 * length after ≤ length line
 fits_kept before after line same fits = omega arith
 
-pub returns-in-Refused : goal.returns-in-Refused
-returns-in-Refused c =
-    stop_line_lem c.args.line.now _ _ _ _ c.args.p c.args.rows.now c.args.message.now c.in-Refused.c
+pub returns-in-Err : goal.returns-in-Err
+returns-in-Err c =
+    stop_line_lem c.args.line.now _ _ _ _ c.args.p c.args.rows.now c.args.message.now c.in-Err.c
     c.stopped.ensures.player c.stopped.ensures.len c.stopped.ensures.over c.stopped.ensures.line
     ∙ ap (printed_on c.args.line.now)
-    (frame_stops c.args.p c.args.frame.now c.args.end c.args.rows.now c.args.message.now c.in-Refused.c
-    (sym c.stop_of-stop.ensures ∙ c.in-Refused.is))
+    (frame_stops c.args.p c.args.frame.now c.args.end c.args.rows.now c.args.message.now c.in-Err.c
+    (sym c.stop_of.ensures ∙ c.in-Err.is))
 
 pub told-requires : goal.told-requires
 told-requires c =
@@ -33,5 +33,5 @@ returns c =
     ∙ ap₂ (λ (offset : ℕ) (r : Reported). printed_on c.args.line.now (report_act c.args.p.receiver offset r)) c.offset_after.ensures c.report_kept-r.ensures
     ∙ ap (printed_on c.args.line.now)
     (frame_reports c.args.p c.args.frame.now c.args.end c.args.rows.now c.args.message.now
-    (sym c.stop_of-stop.ensures ∙ c.in_default.is)
+    (sym c.stop_of.ensures ∙ c.in_default.is)
     _ (ap (λ (n : ℕ). leb n c.args.p.receiver.due) c.slot_of.ensures))

@@ -8,6 +8,7 @@ use mir.Val.{SFits, to_z, of_z}
 use mir.ValLaws.{to_z-of_z}
 use Rattle.code.specs.declared.settings.Settings.{Settings}
 use Rattle.protocol.specs.Causes.{out_of_reach}
+use Rattle.protocol.proofs.QuestionMark.{refused_for}
 use Rattle.causes.proofs.Parts.{refused_as_loss, refused_out_of_reach, look_up_clear}
 use Rattle.causes.proofs.lookup.look_up_cause.Goals as goal
 
@@ -16,19 +17,20 @@ tested : (s : Settings) (due : ℕ) (number : ℤ) (far : Bool) → SFits w64 nu
     → out_of_reach s due number ≡ far
 tested s due number far fits is = ap (out_of_reach s due) (sym (to_z-of_z w64 number fits)) ∙ sym is
 
-pub returns-in-Refused : goal.returns-in-Refused
-returns-in-Refused c =
+pub returns-in_err-loss_cause : goal.returns-in_err-loss_cause
+returns-in_err-loss_cause c =
     let a = c.args in
-    refused_as_loss a.x a.rows.now a.number a.message.now _ (sym c.loss_cause-found.ensures ∙ c.in-Refused.is)
+    refused_for _ _ c.from_residual.ensures.1
+    ∙ refused_as_loss a.x a.rows.now a.number a.message.now _ (sym c.loss_cause.ensures ∙ c.in_err-loss_cause.was)
 
 pub returns-then-out_of_reach : goal.returns-then-out_of_reach
 returns-then-out_of_reach c =
     let a = c.args in
     let far = tested a.x.settings a.x.due a.number c.out_of_reach.result c.ranges.number c.out_of_reach.ensures in
-    refused_out_of_reach a.x a.rows.now a.number a.message.now (sym c.loss_cause-found.ensures ∙ c.in_default.is) (far ∙ c.if-out_of_reach.true)
+    refused_out_of_reach a.x a.rows.now a.number a.message.now (sym c.loss_cause.ensures ∙ c.in_ok-loss_cause.was) (far ∙ c.if-out_of_reach.true)
 
 pub returns : goal.returns
 returns c =
     let a = c.args in
     let far = tested a.x.settings a.x.due a.number c.out_of_reach.result c.ranges.number c.out_of_reach.ensures in
-    look_up_clear a.x a.rows.now a.number a.message.now (sym c.loss_cause-found.ensures ∙ c.in_default.is) (far ∙ c.if-out_of_reach.false)
+    look_up_clear a.x a.rows.now a.number a.message.now (sym c.loss_cause.ensures ∙ c.in_ok-loss_cause.was) (far ∙ c.if-out_of_reach.false)

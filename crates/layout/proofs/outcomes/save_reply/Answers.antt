@@ -8,5 +8,5 @@ pub returns : goal.returns
 returns c =
     record {
       number = c.reply_number.ensures;
-      state = c.save.ensures ∙ ap (λ (t : Bool). saved t c.args.bytes c.args.state.now) c.reply_taken.ensures;
+      state = c.save.ensures ∙ ap (λ (t : Bool). saved t c.args.bytes c.args.state.now) c.is_ok.ensures.value;
     }

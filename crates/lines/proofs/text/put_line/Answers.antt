@@ -1,28 +1,8 @@
--- Each reply has its line.
-use mathlib.Core.Path.{refl}
-use Rattle.lines.specs.Text.{line_of, written}
+-- A refusal has the line of its cause's number.
+use Rattle.lines.specs.Text.{line_of}
 use Rattle.lines.proofs.text.put_line.Goals as goal
 
-pub returns-in-Refused : goal.returns-in-Refused
+pub returns-in-Err : goal.returns-in-Err
 unfolding line_of
-returns-in-Refused c =
-    rw (c.in-Refused.is, ← c.number_of.ensures) c.put_stop.ensures
-
-pub returns-in-NoneYet : goal.returns-in-NoneYet
-unfolding line_of written
-returns-in-NoneYet c =
-    rw c.in-NoneYet.is (refl, refl)
-
-pub returns-in-Whole : goal.returns-in-Whole
-returns-in-Whole c =
-    rw c.in-Whole.is c.write_whole.ensures
-
-pub returns-in-Lost : goal.returns-in-Lost
-unfolding line_of
-returns-in-Lost c =
-    rw c.in-Lost.is c.write_word.ensures
-
-pub returns-in-Clash : goal.returns-in-Clash
-unfolding line_of
-returns-in-Clash c =
-    rw c.in-Clash.is c.write_word-in-Clash.ensures
+returns-in-Err c =
+    rw (c.in-Err.is, ← c.from.ensures) c.put_stop.ensures

@@ -1,9 +1,9 @@
 -- A cause that is found refuses the opening, and else the rows are those of the slots before it.
+use Rattle.std.specs.Prelude.{Ok}
 use mathlib.Core.Path.{◌≡◌, sym, ap₂, ◌∙◌}
 use native.Mathlib.Omega.{arith}
 use Prim.Native.Nat.{ℕ}
 use Rattle.galois.specs.Table.{table}
-use Rattle.protocol.specs.declared.Answer.TheVariants as answer
 use Rattle.protocol.specs.Causes.{open_receiver_cause}
 use Rattle.protocol.specs.Lengths.{row_len}
 use Rattle.protocol.proofs.CauseTables.{receiver_open}
@@ -12,9 +12,9 @@ use Rattle.ring.proofs.OpenedRows.{opened_rows_lem}
 use Rattle.receiver.proofs.Outcomes.{opening, unopened, opened}
 use Rattle.receiver.proofs.opening.open.Goals as goal
 
-pub returns-in-Refused : goal.returns-in-Refused
-returns-in-Refused c =
-    unopened c.args.s c.args.slot c.args.rows.now _ (sym c.open_receiver_cause-found.ensures ∙ c.in-Refused.is)
+pub returns-in-Err : goal.returns-in-Err
+returns-in-Err c =
+    unopened c.args.s c.args.slot c.args.rows.now _ (sym c.open_receiver_cause.ensures ∙ c.in-Err.is)
 
 pub write_opened-requires : goal.write_opened-requires
 unfolding row_len
@@ -23,7 +23,7 @@ write_opened-requires c =
 
 pub returns : goal.returns
 returns c =
-    let uncaused : open_receiver_cause c.args.s c.args.slot c.args.rows.now ≡ answer.Accepted = sym c.open_receiver_cause-found.ensures ∙ c.in_default.is in
+    let uncaused : open_receiver_cause c.args.s c.args.slot c.args.rows.now ≡ (Ok tt) = sym c.open_receiver_cause.ensures ∙ c.in_default.is in
     ap₂ opening
     (c.write_opened.ensures
     ∙ ap₂ (λ (n m : ℕ). table n (opened_byte m c.args.slot))

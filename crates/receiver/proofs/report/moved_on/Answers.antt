@@ -1,4 +1,5 @@
 -- Below slot T there is no message yet; from then on the decision is the reply. Either way the slot due moves on.
+use Rattle.std.specs.Prelude.{Ok}
 use borrow.Author.Rules.{rules}
 use borrow.Author.Tests.{lt-ltb, le-ltb}
 use mathlib.Core.Path.{◌≡◌, ap, ap₂, ◌∙◌}
@@ -8,8 +9,8 @@ use Prim.Native.Nat.{ℕ, ◌+◌, ◌-◌}
 use lib.ListN.{replicate}
 use Rattle.code.specs.Settings.{delay_of}
 use Rattle.protocol.specs.declared.Receiver.{Receiver}
-use Rattle.protocol.specs.declared.Reply.{Reply}
-use Rattle.protocol.specs.declared.Reply.TheVariants as reply
+use Rattle.protocol.specs.Answers.{Reply}
+use Rattle.protocol.specs.declared.Told.TheVariants.{NoneYet}
 use Rattle.protocol.specs.Lengths.{last_slot}
 use Rattle.protocol.specs.States.{reported_on}
 use Rattle.protocol.specs.Verdict.{verdict, buffer_of}
@@ -28,7 +29,7 @@ told_by_lem x rows next r message on told held =
 pub returns-then-x-delay : goal.returns-then-x-delay
 unfolding buffer_of
 returns-then-x-delay c =
-    told_by_lem c.args.x c.args.rows.now c.next_receiver-next.result reply.NoneYet _ c.next_receiver-next.ensures
+    told_by_lem c.args.x c.args.rows.now c.next_receiver-next.result (Ok NoneYet) _ c.next_receiver-next.ensures
     (rw (lt-ltb c.args.x.due (delay_of c.args.x.settings) (omega arith)))
     (c.clear.ensures ∙ ap (λ (n : ℕ). replicate n 0) c.requires.3)
 

@@ -1,4 +1,5 @@
 -- A cause that the state gives refuses the look_up; else it is protocol's, and its number is the reply.
+use Rattle.std.specs.Prelude.{Ok}
 use mathlib.Core.Path.{◌≡◌, sym, ap, ap₂, ◌∙◌}
 use mathlib.Core.List.{List}
 use native.Mathlib.Omega.{arith}
@@ -8,7 +9,6 @@ use lib.ListN.{length}
 use mir.Syntax.{w64}
 use mir.ValLaws.{to_z-of_z}
 use Rattle.protocol.specs.declared.Receiver.{Receiver}
-use Rattle.protocol.specs.declared.Answer.TheVariants as answer
 use Rattle.protocol.specs.Calls.{look_up_of}
 use Rattle.state.specs.State.{receiver_end, state_len, state_cause}
 use Rattle.state.proofs.KeptStates.{uncaused_length}
@@ -27,13 +27,13 @@ returns-in-Refused c =
 
 pub receiver_in-requires : goal.receiver_in-requires
 receiver_in-requires c =
-    let uncaused : state_cause receiver_end c.args.state.now ≡ answer.Accepted = sym c.state_cause-found.ensures ∙ c.in_default.is in
+    let uncaused : state_cause receiver_end c.args.state.now ≡ (Ok tt) = sym c.state_cause-found.ensures ∙ c.in_default.is in
     let sized : length c.args.state.now ≡ state_len = uncaused_length receiver_end c.args.state.now (uncaused) in
     omega (arith, sized)
 
 pub returns : goal.returns
 returns c =
-    let uncaused : state_cause receiver_end c.args.state.now ≡ answer.Accepted = sym c.state_cause-found.ensures ∙ c.in_default.is in
+    let uncaused : state_cause receiver_end c.args.state.now ≡ (Ok tt) = sym c.state_cause-found.ensures ∙ c.in_default.is in
     ap (outcome _) c.reply_number.ensures
     ∙ ap looked_bytes
     (c.look_up.ensures

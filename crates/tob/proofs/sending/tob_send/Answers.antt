@@ -1,11 +1,11 @@
 -- A cause that the state gives refuses the send; else it is protocol's.
+use Rattle.std.specs.Prelude.{Ok}
 use mathlib.Core.Path.{◌≡◌, sym, ap, ap₂, ◌∙◌}
 use mathlib.Core.List.{List}
 use native.Mathlib.Omega.{arith}
 use Prim.Native.Nat.{ℕ}
 use lib.ListN.{length}
 use Rattle.protocol.specs.declared.Sender.{Sender}
-use Rattle.protocol.specs.declared.Answer.TheVariants as answer
 use Rattle.protocol.specs.Calls.{send_of}
 use Rattle.state.specs.State.{sender_end, state_len, saved, state_cause}
 use Rattle.protocol.specs.Histories.{is_accepted}
@@ -24,19 +24,19 @@ returns-in-Refused c =
 
 pub sender_in-requires : goal.sender_in-requires
 sender_in-requires c =
-    let uncaused : state_cause sender_end c.args.state.now ≡ answer.Accepted = sym c.state_cause-found.ensures ∙ c.in_default.is in
+    let uncaused : state_cause sender_end c.args.state.now ≡ (Ok tt) = sym c.state_cause-found.ensures ∙ c.in_default.is in
     let sized : length c.args.state.now ≡ state_len = uncaused_length sender_end c.args.state.now (uncaused) in
     omega (arith, sized)
 
 pub save_answer-requires : goal.save_answer-requires
 save_answer-requires c =
-    let uncaused : state_cause sender_end c.args.state.now ≡ answer.Accepted = sym c.state_cause-found.ensures ∙ c.in_default.is in
+    let uncaused : state_cause sender_end c.args.state.now ≡ (Ok tt) = sym c.state_cause-found.ensures ∙ c.in_default.is in
     let sized : length c.args.state.now ≡ state_len = uncaused_length sender_end c.args.state.now (uncaused) in
     sized
 
 pub returns : goal.returns
 returns c =
-    let uncaused : state_cause sender_end c.args.state.now ≡ answer.Accepted = sym c.state_cause-found.ensures ∙ c.in_default.is in
+    let uncaused : state_cause sender_end c.args.state.now ≡ (Ok tt) = sym c.state_cause-found.ensures ∙ c.in_default.is in
     ap₂ (outcome _ _) c.save_answer.ensures.number
     (c.save_answer.ensures.state
     ∙ ap (λ (bytes : List ℕ). saved (is_accepted c.send-r.result.answer) bytes c.args.state.now) c.sender_bytes.ensures)

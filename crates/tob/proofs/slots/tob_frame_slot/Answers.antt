@@ -1,9 +1,9 @@
 -- A cause leaves the lent slot as it was; else it is the slot of its header.
+use Rattle.std.specs.Prelude.{Ok}
 use mathlib.Core.Path.{◌≡◌, sym, ap, ap₂, ◌∙◌}
 use native.Mathlib.Omega.{arith}
 use Prim.Native.Nat.{ℕ}
-use Rattle.protocol.specs.declared.Answer.{Answer}
-use Rattle.protocol.specs.declared.Answer.TheVariants as answer
+use Rattle.protocol.specs.Answers.{Answer}
 use Rattle.frames.specs.Fields.{slot_in, slot_read_cause}
 use Rattle.library.specs.Calls.{read_by, frame_slot_bytes}
 use Rattle.library.proofs.Slots.{frame_sized}
@@ -17,11 +17,11 @@ returns-in-Refused c =
 
 pub slot_of-requires : goal.slot_of-requires
 slot_of-requires c =
-    let uncaused : answer.Accepted ≡ slot_read_cause c.args.frame.now = sym c.in_default.is ∙ c.slot_read_cause-found.ensures in
+    let uncaused : (Ok tt) ≡ slot_read_cause c.args.frame.now = sym c.in_default.is ∙ c.slot_read_cause-found.ensures in
     omega (arith, frame_sized c.args.frame.now (sym (uncaused)))
 
 pub returns : goal.returns
 unfolding frame_slot_bytes
 returns c =
-    let uncaused : answer.Accepted ≡ slot_read_cause c.args.frame.now = sym c.in_default.is ∙ c.slot_read_cause-found.ensures in
+    let uncaused : (Ok tt) ≡ slot_read_cause c.args.frame.now = sym c.in_default.is ∙ c.slot_read_cause-found.ensures in
     ap₂ (λ (x : Answer) (n : ℕ). read_by x n c.args.slot.now) (uncaused) c.slot_of.ensures

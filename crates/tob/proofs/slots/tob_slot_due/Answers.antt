@@ -1,9 +1,9 @@
 -- A cause leaves the lent slot as it was; else it is the slot that the state keeps.
+use Rattle.std.specs.Prelude.{Ok}
 use mathlib.Core.Path.{◌≡◌, sym, ap, ap₂, ◌∙◌}
 use native.Mathlib.Omega.{arith}
 use Prim.Native.Nat.{ℕ}
-use Rattle.protocol.specs.declared.Answer.{Answer}
-use Rattle.protocol.specs.declared.Answer.TheVariants as answer
+use Rattle.protocol.specs.Answers.{Answer}
 use Rattle.frames.specs.Fields.{slot_at}
 use Rattle.state.specs.State.{due_read_cause}
 use Rattle.library.specs.Calls.{read_by, slot_due_bytes}
@@ -18,11 +18,11 @@ returns-in-Refused c =
 
 pub slot_at-requires : goal.slot_at-requires
 slot_at-requires c =
-    let uncaused : answer.Accepted ≡ due_read_cause c.args.state.now = sym c.in_default.is ∙ c.due_read_cause-found.ensures in
+    let uncaused : (Ok tt) ≡ due_read_cause c.args.state.now = sym c.in_default.is ∙ c.due_read_cause-found.ensures in
     omega (arith, due_sized c.args.state.now (sym (uncaused)))
 
 pub returns : goal.returns
 unfolding slot_due_bytes
 returns c =
-    let uncaused : answer.Accepted ≡ due_read_cause c.args.state.now = sym c.in_default.is ∙ c.due_read_cause-found.ensures in
+    let uncaused : (Ok tt) ≡ due_read_cause c.args.state.now = sym c.in_default.is ∙ c.due_read_cause-found.ensures in
     ap₂ (λ (x : Answer) (n : ℕ). read_by x n c.args.slot.now) (uncaused) c.slot_at.ensures
