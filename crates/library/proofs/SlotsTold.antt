@@ -180,7 +180,7 @@ module _ (state rows message : List ℕ) (was : ℕ) where
   lost_by (Err c) b none e t = refused c (sym (lost_caused state rows message c none)) t
   lost_by (Ok tt) (Err c) none e t =
       refused c (sym (lost_uncaused state rows message none) ∙ ap (report_left state) (steps.loss_stays y rows message c e)) t
-  lost_by (Ok tt) (Ok tt) none e t =
+  lost_by (Ok tt) (Ok _) none e t =
       let free = loss_open y rows message e in
       subst On (ap (report_left state) (sym (steps.loss_moves y rows message e)) ∙ lost_uncaused state rows message none)
       (moved none free.settings free.in_time_lem _)
@@ -190,7 +190,7 @@ module _ (state rows message : List ℕ) (was : ℕ) where
   heard_by frame (Err c) b none e t = refused c (sym (heard_caused state rows message frame c none)) t
   heard_by frame (Ok tt) (Err c) none e t =
       refused c (sym (heard_uncaused state rows message frame none) ∙ ap (report_left state) (steps.heard_stays y rows frame message c e)) t
-  heard_by frame (Ok tt) (Ok tt) none e t =
+  heard_by frame (Ok tt) (Ok _) none e t =
       let free = frame_open y rows message 1 frame e in
       subst On (ap (report_left state) (sym (steps.heard_moves y rows frame message e)) ∙ heard_uncaused state rows message frame none)
       (moved none free.settings free.in_time_lem _)
@@ -249,7 +249,7 @@ module _ (state rows frame message : List ℕ) (was : ℕ) (bytes : Bytes frame)
       let due = receiver_tells state (passes (accepted z.settings) (free BadSettings)) none was in
       let lengths = framed_lengths z.settings (receiver_len z.settings) (length rows) (length message) (length frame) (passes size (free BadLength)) in
       let long : length frame ≡ frame_len z.settings = lengths.2 in
-      let read : slot_read_cause frame ≡ (Ok tt) =
+      let read : slot_read_cause frame ≡ Ok tt =
       rw (le-ltb (length frame) 14 (omega arith), not-false (agree 5 frame (mark 1)) (free OtherMark)) in
       let framed : frame_slot_bytes frame was ≡ told (slot_in frame) = rw read refl in (
         ap (λ (r : Reading). r.reply) due,

@@ -8,7 +8,6 @@ ghost use Rattle.player.proofs.StepsLeft.{steps_left};
 ghost use Rattle.pairplay.proofs.Left.{pair_left};
 
 use code::Settings;
-use ends::number_of;
 use pairplay::PairStart;
 use progress::{Player, Progress};
 use stops::Start;
@@ -44,7 +43,7 @@ impl<'a> Recorded for One<'a> {
     fn start(&self) -> Result<Option<Settings>, u32> {
         match stops::examine(self.0) {
             Start::Empty => Ok(None),
-            Start::Stop(c) => Err(number_of(c)),
+            Start::Stop(c) => Err(u32::from(c)),
             Start::Play(s) => Ok(Some(s)),
         }
     }

@@ -88,7 +88,7 @@ module _ (recording : List ℕ) (offset : ℕ) (frames : List (List ℕ)) where
       let frame : List ℕ = here y.settings in
       let above : y.due < slot_in frame = omega arith in
       let r : Reported = loss_of y rows message in
-      let onto : frame_stop (reported_on y) frame ≡ (Ok tt) =
+      let onto : frame_stop (reported_on y) frame ≡ Ok tt =
       passing_stop (reported_on y) frame (passing_onward y frame e above) in
       report_by recording (player_at y offset) rows message offset r (skipped m (finish y.settings))
       (act_loss recording (player_at y offset) fits rows message e above)

@@ -98,7 +98,7 @@ found_case x rows message frame (Ok tt) e = taken (clear_send x rows message fra
 found_case x rows message frame (Err c) e =
     refused c
     (λ h.
-    let other : send_cause x rows message frame ≡ (Ok tt) = send_clear x rows message frame h in
+    let other : send_cause x rows message frame ≡ Ok tt = send_clear x rows message frame h in
     let z : ◌≡◌ {A = ℕ} 0 1 = cc in
     omega arith)
     (rw (e, send_of))
@@ -116,7 +116,7 @@ taken_case x rows message frame e = go (send_case x rows message frame)
         → Sendable x rows message frame × (send_of x rows message frame ≡ taken_send x rows message)
     go (taken h f) = (h, f)
     go (refused c never f) =
-        let same : Err c ≡ (Ok tt) = sym (ap (λ (r : Sent). r.answer) f) ∙ e in
+        let same : Err c ≡ Ok tt = sym (ap (λ (r : Sent). r.answer) f) ∙ e in
         let z : ◌≡◌ {A = ℕ} 0 1 = cc in
         absurd (omega arith)
 

@@ -67,7 +67,7 @@ picked g x rows (c ∷ cs) m h ok =
     let rest : List SendMade = sends r.sender r.rows cs in
     ⊎_elim
     (λ e.
-    let answered : r.answer ≡ (Ok tt) = sym (ap (λ (n : SendMade). n.after.answer) e) ∙ ok in
+    let answered : r.answer ≡ Ok tt = sym (ap (λ (n : SendMade). n.after.answer) e) ∙ ok in
     ap (λ (b : Bool). cond b (g (made_of x rows c)) (picked_at g rest m.before.due))
     (ap₂ ◌&&◌ (ap is_accepted answered) (eq-eqb x.due m.before.due (sym (ap (λ (n : SendMade). n.before.due) e))))
     ∙ ap g (sym e))

@@ -43,7 +43,7 @@ pub returns : goal.returns
 returns c =
     let cause : c.look_up_cause.result ≡ look_up_cause c.args.x c.args.rows.now c.args.number c.args.message.now = subst (λ (z : ℤ). c.look_up_cause.result ≡ look_up_cause c.args.x c.args.rows.now z c.args.message.now)
     (to_z-of_z w64 c.args.number c.ranges.number) c.look_up_cause.ensures in
-    let uncaused : look_up_cause c.args.x c.args.rows.now c.args.number c.args.message.now ≡ (Ok tt) = sym (cause) ∙ c.in_ok-look_up_cause.was in
+    let uncaused : look_up_cause c.args.x c.args.rows.now c.args.number c.args.message.now ≡ Ok tt = sym (cause) ∙ c.in_ok-look_up_cause.was in
     let clear : LossOpen c.args.x c.args.rows.now c.args.message.now = (look_up_open c.args.x c.args.rows.now c.args.number c.args.message.now (uncaused)).0 in
     let reach : (t : ℕ) × InReach c.args.x.settings c.args.x.due c.args.number t = let (clear, t, within) = look_up_open c.args.x c.args.rows.now c.args.number c.args.message.now (uncaused) in
     (t, within) in
@@ -61,7 +61,7 @@ unfolding last_slot
 overflow_cast-number c =
     let cause : c.look_up_cause.result ≡ look_up_cause c.args.x c.args.rows.now c.args.number c.args.message.now = subst (λ (z : ℤ). c.look_up_cause.result ≡ look_up_cause c.args.x c.args.rows.now z c.args.message.now)
     (to_z-of_z w64 c.args.number c.ranges.number) c.look_up_cause.ensures in
-    let uncaused : look_up_cause c.args.x c.args.rows.now c.args.number c.args.message.now ≡ (Ok tt) = sym (cause) ∙ c.in_ok-look_up_cause.was in
+    let uncaused : look_up_cause c.args.x c.args.rows.now c.args.number c.args.message.now ≡ Ok tt = sym (cause) ∙ c.in_ok-look_up_cause.was in
     let clear : LossOpen c.args.x c.args.rows.now c.args.message.now = (look_up_open c.args.x c.args.rows.now c.args.number c.args.message.now (uncaused)).0 in
     let reach : (t : ℕ) × InReach c.args.x.settings c.args.x.due c.args.number t = let (clear, t, within) = look_up_open c.args.x c.args.rows.now c.args.number c.args.message.now (uncaused) in
     (t, within) in

@@ -18,13 +18,13 @@ returns-in-Err c =
 
 pub record_lost-requires : goal.record_lost-requires
 record_lost-requires c =
-    let uncaused : loss_cause c.args.x c.args.rows.now c.args.message.now ≡ (Ok tt) = sym c.loss_cause.ensures ∙ c.in_default.is in
+    let uncaused : loss_cause c.args.x c.args.rows.now c.args.message.now ≡ Ok tt = sym c.loss_cause.ensures ∙ c.in_default.is in
     let clear : LossOpen c.args.x c.args.rows.now c.args.message.now = loss_open c.args.x c.args.rows.now c.args.message.now (uncaused) in
     let f = clear in (f.settings, f.rows_exact)
 
 pub moved_on-requires : goal.moved_on-requires
 moved_on-requires c =
-    let uncaused : loss_cause c.args.x c.args.rows.now c.args.message.now ≡ (Ok tt) = sym c.loss_cause.ensures ∙ c.in_default.is in
+    let uncaused : loss_cause c.args.x c.args.rows.now c.args.message.now ≡ Ok tt = sym c.loss_cause.ensures ∙ c.in_default.is in
     let clear : LossOpen c.args.x c.args.rows.now c.args.message.now = loss_open c.args.x c.args.rows.now c.args.message.now (uncaused) in
     let f = clear in (
       f.settings,
@@ -37,6 +37,6 @@ moved_on-requires c =
 pub returns : goal.returns
 unfolding moved_on
 returns c =
-    let uncaused : loss_cause c.args.x c.args.rows.now c.args.message.now ≡ (Ok tt) = sym c.loss_cause.ensures ∙ c.in_default.is in
+    let uncaused : loss_cause c.args.x c.args.rows.now c.args.message.now ≡ Ok tt = sym c.loss_cause.ensures ∙ c.in_default.is in
     c.moved_on.ensures ∙ ap (told_by c.args.x) c.record_lost.ensures
     ∙ sym (loss_moves c.args.x c.args.rows.now c.args.message.now (uncaused))

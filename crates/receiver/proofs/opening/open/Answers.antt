@@ -23,7 +23,7 @@ write_opened-requires c =
 
 pub returns : goal.returns
 returns c =
-    let uncaused : open_receiver_cause c.args.s c.args.slot c.args.rows.now ≡ (Ok tt) = sym c.open_receiver_cause.ensures ∙ c.in_default.is in
+    let uncaused : open_receiver_cause c.args.s c.args.slot c.args.rows.now ≡ Ok tt = sym c.open_receiver_cause.ensures ∙ c.in_default.is in
     ap₂ opening
     (c.write_opened.ensures
     ∙ ap₂ (λ (n m : ℕ). table n (opened_byte m c.args.slot))

@@ -15,18 +15,18 @@ returns-in_err-header_cause c =
 
 pub returns-then-slot-x : goal.returns-then-slot-x
 returns-then-slot-x c =
-    let own : header_cause 1 c.args.x.settings c.args.frame.now ≡ (Ok tt) = sym c.header_cause.ensures ∙ c.in_ok-header_cause.was in
+    let own : header_cause 1 c.args.x.settings c.args.frame.now ≡ Ok tt = sym c.header_cause.ensures ∙ c.in_ok-header_cause.was in
     let slot : c.slot_of-slot.result ≡ slot_in c.args.frame.now = c.slot_of-slot.ensures in
     stop_below c.args.x c.args.frame.now (own) (omega (arith, slot))
 
 pub returns-then-slot-x-gt-LONGEST_GAP : goal.returns-then-slot-x-gt-LONGEST_GAP
 returns-then-slot-x-gt-LONGEST_GAP c =
-    let own : header_cause 1 c.args.x.settings c.args.frame.now ≡ (Ok tt) = sym c.header_cause.ensures ∙ c.in_ok-header_cause.was in
+    let own : header_cause 1 c.args.x.settings c.args.frame.now ≡ Ok tt = sym c.header_cause.ensures ∙ c.in_ok-header_cause.was in
     let slot : c.slot_of-slot.result ≡ slot_in c.args.frame.now = c.slot_of-slot.ensures in
     stop_above c.args.x c.args.frame.now (own) (omega (arith, slot)) (omega (arith, slot))
 
 pub returns : goal.returns
 returns c =
-    let own : header_cause 1 c.args.x.settings c.args.frame.now ≡ (Ok tt) = sym c.header_cause.ensures ∙ c.in_ok-header_cause.was in
+    let own : header_cause 1 c.args.x.settings c.args.frame.now ≡ Ok tt = sym c.header_cause.ensures ∙ c.in_ok-header_cause.was in
     let slot : c.slot_of-slot.result ≡ slot_in c.args.frame.now = c.slot_of-slot.ensures in
     passes c.args.x c.args.frame.now (own) (omega (arith, slot)) (omega (arith, slot))

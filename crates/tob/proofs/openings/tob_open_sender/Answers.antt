@@ -28,14 +28,14 @@ pub save_answer-requires : goal.save_answer-requires
 save_answer-requires c =
     let looked : c.open_cause-found.result ≡ open_cause (settings_at 0 c.args.settings.now) state_len c.args.state.now = c.open_cause-found.ensures
     ∙ ap (λ (s : Settings). open_cause s state_len c.args.state.now) c.settings_at-s.ensures in
-    let uncaused : open_cause (settings_at 0 c.args.settings.now) state_len c.args.state.now ≡ (Ok tt) = sym (looked) ∙ c.in_default.is in
+    let uncaused : open_cause (settings_at 0 c.args.settings.now) state_len c.args.state.now ≡ Ok tt = sym (looked) ∙ c.in_default.is in
     open_exact (settings_at 0 c.args.settings.now) state_len c.args.state.now (uncaused)
 
 pub returns : goal.returns
 returns c =
     let looked : c.open_cause-found.result ≡ open_cause (settings_at 0 c.args.settings.now) state_len c.args.state.now = c.open_cause-found.ensures
     ∙ ap (λ (s : Settings). open_cause s state_len c.args.state.now) c.settings_at-s.ensures in
-    let uncaused : open_cause (settings_at 0 c.args.settings.now) state_len c.args.state.now ≡ (Ok tt) = sym (looked) ∙ c.in_default.is in
+    let uncaused : open_cause (settings_at 0 c.args.settings.now) state_len c.args.state.now ≡ Ok tt = sym (looked) ∙ c.in_default.is in
     ap₂ (outcome _) c.save_answer.ensures.number
     (c.save_answer.ensures.state
     ∙ ap (λ (bytes : List ℕ). saved (is_accepted c.open-r.result.answer) bytes c.args.state.now) c.sender_bytes.ensures)

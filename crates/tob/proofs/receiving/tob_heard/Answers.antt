@@ -24,19 +24,19 @@ returns-in-Refused c =
 
 pub receiver_in-requires : goal.receiver_in-requires
 receiver_in-requires c =
-    let uncaused : state_cause receiver_end c.args.state.now ≡ (Ok tt) = sym c.state_cause-found.ensures ∙ c.in_default.is in
+    let uncaused : state_cause receiver_end c.args.state.now ≡ Ok tt = sym c.state_cause-found.ensures ∙ c.in_default.is in
     let sized : length c.args.state.now ≡ state_len = uncaused_length receiver_end c.args.state.now (uncaused) in
     omega (arith, sized)
 
 pub save_reply-requires : goal.save_reply-requires
 save_reply-requires c =
-    let uncaused : state_cause receiver_end c.args.state.now ≡ (Ok tt) = sym c.state_cause-found.ensures ∙ c.in_default.is in
+    let uncaused : state_cause receiver_end c.args.state.now ≡ Ok tt = sym c.state_cause-found.ensures ∙ c.in_default.is in
     let sized : length c.args.state.now ≡ state_len = uncaused_length receiver_end c.args.state.now (uncaused) in
     sized
 
 pub returns : goal.returns
 returns c =
-    let uncaused : state_cause receiver_end c.args.state.now ≡ (Ok tt) = sym c.state_cause-found.ensures ∙ c.in_default.is in
+    let uncaused : state_cause receiver_end c.args.state.now ≡ Ok tt = sym c.state_cause-found.ensures ∙ c.in_default.is in
     ap₂ (outcome _ _) c.save_reply.ensures.number
     (c.save_reply.ensures.state
     ∙ ap (λ (bytes : List ℕ). saved (accepts c.heard-r.result.reply) bytes c.args.state.now) c.receiver_bytes.ensures)

@@ -27,13 +27,13 @@ returns-in-Refused c =
 
 pub receiver_in-requires : goal.receiver_in-requires
 receiver_in-requires c =
-    let uncaused : state_cause receiver_end c.args.state.now ≡ (Ok tt) = sym c.state_cause-found.ensures ∙ c.in_default.is in
+    let uncaused : state_cause receiver_end c.args.state.now ≡ Ok tt = sym c.state_cause-found.ensures ∙ c.in_default.is in
     let sized : length c.args.state.now ≡ state_len = uncaused_length receiver_end c.args.state.now (uncaused) in
     omega (arith, sized)
 
 pub returns : goal.returns
 returns c =
-    let uncaused : state_cause receiver_end c.args.state.now ≡ (Ok tt) = sym c.state_cause-found.ensures ∙ c.in_default.is in
+    let uncaused : state_cause receiver_end c.args.state.now ≡ Ok tt = sym c.state_cause-found.ensures ∙ c.in_default.is in
     ap (outcome _) c.reply_number.ensures
     ∙ ap looked_bytes
     (c.look_up.ensures

@@ -24,19 +24,19 @@ returns-in-Refused c =
 
 pub sender_in-requires : goal.sender_in-requires
 sender_in-requires c =
-    let uncaused : state_cause sender_end c.args.state.now ≡ (Ok tt) = sym c.state_cause-found.ensures ∙ c.in_default.is in
+    let uncaused : state_cause sender_end c.args.state.now ≡ Ok tt = sym c.state_cause-found.ensures ∙ c.in_default.is in
     let sized : length c.args.state.now ≡ state_len = uncaused_length sender_end c.args.state.now (uncaused) in
     omega (arith, sized)
 
 pub save_answer-requires : goal.save_answer-requires
 save_answer-requires c =
-    let uncaused : state_cause sender_end c.args.state.now ≡ (Ok tt) = sym c.state_cause-found.ensures ∙ c.in_default.is in
+    let uncaused : state_cause sender_end c.args.state.now ≡ Ok tt = sym c.state_cause-found.ensures ∙ c.in_default.is in
     let sized : length c.args.state.now ≡ state_len = uncaused_length sender_end c.args.state.now (uncaused) in
     sized
 
 pub returns : goal.returns
 returns c =
-    let uncaused : state_cause sender_end c.args.state.now ≡ (Ok tt) = sym c.state_cause-found.ensures ∙ c.in_default.is in
+    let uncaused : state_cause sender_end c.args.state.now ≡ Ok tt = sym c.state_cause-found.ensures ∙ c.in_default.is in
     ap₂ (outcome _ _) c.save_answer.ensures.number
     (c.save_answer.ensures.state
     ∙ ap (λ (bytes : List ℕ). saved (is_accepted c.send-r.result.answer) bytes c.args.state.now) c.sender_bytes.ensures)
