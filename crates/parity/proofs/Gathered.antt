@@ -45,8 +45,9 @@ module _ (s : Settings) (row i : ℕ) where
   -- both lie within the rows
   pub source_held : Shape s → row < n_of s - 1 → (source_in s row i).start + s.lanes ≤ sender_len s
   source_held h below =
-      ⊎_elim (λ past. subst (λ (x : Source). x.start + s.lanes ≤ sender_len s) (source_past past) (omega (arith, source_ends s h row 0 below (omega arith))))
-      (λ one. subst (λ (x : Source). x.start + s.lanes ≤ sender_len s) (source_inside one) (source_ends s h row i below one)) (le_or_lt (k_of s) i)
+      let Held : Source → Type 0 = λ x. x.start + s.lanes ≤ sender_len s in
+      ⊎_elim (λ past. subst Held (source_past past) (omega (arith, source_ends s h row 0 below (omega arith))))
+      (λ one. subst Held (source_inside one) (source_ends s h row i below one)) (le_or_lt (k_of s) i)
 
 -- the row of a source symbol holds the symbol that position p is the sum of
 row_remembered : (s : Settings) (rows : List ℕ) (t p i v : ℕ) → i ≤ p → p < n_of s
@@ -78,7 +79,8 @@ module _ (s : Settings) (rows : List ℕ) (t p : ℕ) (pairs : List (List ℕ)) 
       → take s.lanes (weighted_of (systematic_of s) p all (pairs_of (k_of s))) ≡ parity_of s rows t p
   unfolding parity_of weighted_of remembered
   parity_symbols passed =
-      let lane : ℕ → ℕ = λ v. sum (pairs_of (k_of s) * 2) (λ i. get_or (get_or (systematic_of s) i []) p 0 ⊗ get_or (vector_of all i) v 0) in
+      let lane : ℕ → ℕ =
+      λ v. sum (pairs_of (k_of s) * 2) (λ i. get_or (get_or (systematic_of s) i []) p 0 ⊗ get_or (vector_of all i) v 0) in
       let sums : List ℕ = table 64 lane in
       is_table s.lanes (λ v. symbol s (λ i. remembered s rows t (p - i) i v) p) 0 (take s.lanes sums)
       (length-take-le s.lanes sums (omega (arith, length-table 64 lane, h.lanes_few)))

@@ -68,7 +68,8 @@ module _ (s : Settings) (h : Shape s) (x : ℕ → ℕ) (bytes : (r : ℕ) → x
       ∙ ap (λ (z : ℕ). sum (k_of s) term ⊕ z)
       (sum_zeros over (λ i. term (k_of s + i))
       (λ i hi.
-      ap (λ (c : ℕ). c ⊗ y (k_of s + i)) (entry_systematic passed (k_of s + i) p (omega arith) hp ∙ unit_outside s h (k_of s + i) p (omega arith))
+      ap (λ (c : ℕ). c ⊗ y (k_of s + i))
+      (entry_systematic passed (k_of s + i) p (omega arith) hp ∙ unit_outside s h (k_of s + i) p (omega arith))
       ∙ zero_times (y (k_of s + i))))
       ∙ plus_zero (sum (k_of s) term)
       ∙ sum-equal (k_of s) term (λ r. x r ⊗ symbol s (unit r) p)

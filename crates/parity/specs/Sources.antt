@@ -7,7 +7,8 @@ use Rattle.protocol.specs.Lengths.{message_len}
 
 -- source symbol i of every lane, in a row of the ring; zeros past the last one
 unfoldable pub source_in : Settings → ℕ → ℕ → Source
-source_in s row i = cond (ltb i (k_of s)) (record { start = row * message_len s + i * s.lanes; keep = 255 }) (record { start = 0; keep = 0 })
+source_in s row i =
+    cond (ltb i (k_of s)) (record { start = row * message_len s + i * s.lanes; keep = 255 }) (record { start = 0; keep = 0 })
 
 -- the row of source symbol i of position p in slot t
 unfoldable pub row_of : Settings → ℕ → ℕ → ℕ → ℕ

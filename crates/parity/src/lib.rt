@@ -16,20 +16,19 @@ use vectors::weighted;
 
 // Writes the B parity symbols of the frame of the slot due, each in all lanes: the sum of the k source symbols, each by its entry of the
 // systematic form.
+#[tactic(auto, using(code::proofs::Shape::shape))]
 pub fn write_parities(out: &mut [u8], rows: &[u8], s: Settings, due: u32)
     requires { T (accepted s) × (length rows.now ≡ sender_len s) × (length out.old ≡ s.burst * s.lanes) }
     ensures { out.new ≡ parities_of s rows.now due s.burst }
 {
     let form = systematic(s);
     let lanes = s.lanes as usize;
-    let count = (s.sources() + 1) / 2;
+    let count = s.pairs();
     let mut pairs = [[0u8; 64]; 32];
-    let mut e: usize = 0;
-    while e < s.burst as usize {
+    for e in 0..s.burst as usize {
         let p = s.sources() + e;
         gather(&mut pairs, rows, s, due, p);
         let sum = weighted(&form, p, &pairs, count);
         write_at(out, e * lanes, &sum[..lanes]);
-        e += 1;
     }
 }

@@ -9,7 +9,7 @@ use buffers::message_len;
 use code::Settings;
 use gathering::{Source, pair_up};
 
-// The row after one of the ring.
+// The row after one of the ring, by a test: a remainder at every row would cost a division.
 fn next_row(row: usize, ring: usize) -> usize
     requires { row < ring }
     ensures { result ≡ (row + 1) % ring }
@@ -24,14 +24,18 @@ fn source(s: Settings, row: usize, i: usize) -> Source
     ensures { result ≡ source_in s row i }
 {
     if i < s.sources() {
-        let start = row * message_len(s) + i * s.lanes as usize;
-        return Source { start, keep: 255 };
+        Source {
+            start: row * message_len(s) + i * s.lanes as usize,
+            keep: 255,
+        }
+    } else {
+        Source { start: 0, keep: 0 }
     }
-    Source { start: 0, keep: 0 }
 }
 
 // Gathers the k source symbols of every lane that position p is the sum of, two a turn.
 // Source symbol i is of the message sent p - i slots before the slot due, so that each stands a row further on in the ring.
+#[tactic(auto, using(code::proofs::Shape::shape))]
 pub(crate) fn gather(pairs: &mut [[u8; 64]; 32], rows: &[u8], s: Settings, due: u32, p: usize)
     requires { T (accepted s) × (length rows.now ≡ sender_len s) × (k_of s ≤ p) × (p < n_of s) × Wide pairs.old }
     ensures { pairs.new
@@ -40,13 +44,11 @@ pub(crate) fn gather(pairs: &mut [[u8; 64]; 32], rows: &[u8], s: Settings, due: 
     let lanes = s.lanes as usize;
     let ring = s.symbols() - 1;
     let mut row = (due as usize + ring - p) % ring;
-    let mut j: usize = 0;
-    while j * 2 < s.sources() {
+    for j in 0..s.pairs() {
         let next = next_row(row, ring);
         let first = source(s, row, j * 2);
         let second = source(s, next, j * 2 + 1);
         pair_up(pairs, j, rows, lanes, first, second);
         row = next_row(next, ring);
-        j += 1;
     }
 }

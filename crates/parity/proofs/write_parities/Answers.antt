@@ -2,9 +2,9 @@
 use borrow.Author.Rules.{rules}
 use mathlib.Core.Path.{◌≡◌, sym, ap, ap₂, ◌∙◌, subst⁻¹}
 use mathlib.Core.List.{List, ◌++◌}
-use native.Mathlib.Nat.{zero-mul, suc-mul, mul-le-mul, mul-le-mul_right}
+use native.Mathlib.Nat.{zero-mul}
 use native.Mathlib.Omega.{arith}
-use Prim.Native.Nat.{ℕ, ◌+◌, ◌*◌, ◌/◌, ◌≤◌, ◌<◌}
+use Prim.Native.Nat.{ℕ, ◌+◌, ◌*◌, ◌≤◌, ◌<◌}
 use lib.Dec.{T}
 use lib.ListN.{length, get_or, take, drop}
 use lib.Seq.{length-take-le}
@@ -34,19 +34,9 @@ module _ (s : Settings) (passed : T (accepted s)) where
   within : (k e : ℕ) → k ≡ k_of s → e < s.burst → k + e < n_of s
   within k e is below = let h = shaped in omega arith
 
-  -- its symbols stand within the bytes, which are few
-  ends : (e length : ℕ) → length ≡ s.burst * s.lanes → e < s.burst → (e * s.lanes + s.lanes ≤ length) × (length ≤ 1024)
-  ends e length is below =
-      let h = shaped in
-      let burst : s.burst ≤ 16 = omega arith in
-      (omega (arith, mul-le-mul_right s.lanes below, suc-mul e s.lanes), omega (arith, mul-le-mul burst h.lanes_few))
-
   -- a sum has 64 lanes, of which the first are written
-  lanes_few : (sum : List ℕ) → length sum ≡ 64 → s.lanes ≤ length sum
-  lanes_few sum long = let h = shaped in omega arith
-
   lanes_long : (sum : List ℕ) → length sum ≡ 64 → length (take s.lanes sum) ≡ s.lanes
-  lanes_long sum long = length-take-le s.lanes sum (lanes_few sum long)
+  lanes_long sum long = let h = shaped in length-take-le s.lanes sum (omega arith)
 
   module _ (rows : List ℕ) (t p : ℕ) (pairs gathered : List (List ℕ)) (wide : Wide pairs)
       (is : gathered ≡ gathered_of rows s.lanes (source_of s t p) (pairs_of (k_of s)) pairs) where
@@ -58,96 +48,75 @@ module _ (s : Settings) (passed : T (accepted s)) where
     -- and is a table of pairs
     still_paired : Paired (pairs_of (k_of s)) pairs → Paired (pairs_of (k_of s)) gathered
     still_paired paired =
-        subst⁻¹ (Paired (pairs_of (k_of s))) is
-        (gathered_paired rows s.lanes (source_of s t p) pairs shaped.lanes_few wide (pairs_of (k_of s)) (pairs_of (k_of s)) count_few paired)
+        let count : ℕ = pairs_of (k_of s) in
+        subst⁻¹ (Paired count) is
+        (gathered_paired rows s.lanes (source_of s t p) pairs shaped.lanes_few wide count count count_few paired)
 
     -- its sum by the position's column of the systematic form begins with the parity symbol of each lane
     is_parity : (e count : ℕ) (sum : List ℕ) (form : List (List ℕ)) → p ≡ k_of s + e → p < n_of s → count ≡ pairs_of (k_of s)
         → form ≡ systematic_of s → sum ≡ weighted_of form p gathered count → ((q : ℕ) → get_or rows q 0 < 256)
         → take s.lanes sum ≡ parity_of s rows t (k_of s + e)
     is_parity e count sum form is-p below counted formed summed bytes =
+        let all : List (List ℕ) = gathered_of rows s.lanes (source_of s t p) (pairs_of (k_of s)) pairs in
         ap (take s.lanes)
         (summed
         ∙ ap₂ (λ (l : List (List ℕ)) (m : ℕ). weighted_of form p l m) is counted
-        ∙ ap (λ (f : List (List ℕ)). weighted_of f p (gathered_of rows s.lanes (source_of s t p) (pairs_of (k_of s)) pairs) (pairs_of (k_of s))) formed)
+        ∙ ap (λ (f : List (List ℕ)). weighted_of f p all (pairs_of (k_of s))) formed)
         ∙ parity_symbols s rows t p pairs shaped wide bytes (omega arith) below (is_true _ passed)
         ∙ ap (parity_of s rows t) is-p
-
-pub overflow_add-count : goal.overflow_add-count
-overflow_add-count c = let h = shape c.args.s c.requires.0 in omega arith
 
 pub loop-e-init : goal.loop-e-init
 unfolding parities_of
 loop-e-init c =
     let s = c.args.s in (
-      omega arith,
-      c.requires.2,
       sym (ap (λ (n : ℕ). drop n c.args.out.now) (zero-mul s.lanes)),
       blank_wide,
       blank_paired (pairs_of (k_of s)) (count_few s c.requires.0),
     )
-
-pub overflow_add-p : goal.overflow_add-p
-overflow_add-p c =
-    let h = shape c.args.s c.requires.0 in
-    omega (arith, within c.args.s c.requires.0 c.sources-in-loop-e.result c.loop-e.e c.sources-in-loop-e.ensures c.loop-e-test.true)
 
 pub gather-requires : goal.gather-requires
 gather-requires c = (
   c.requires.0,
   c.requires.1,
   omega arith,
-  within c.args.s c.requires.0 _ c.loop-e.e c.sources-in-loop-e.ensures c.loop-e-test.true,
-  c.loop-e.invariant.3,
+  within c.args.s c.requires.0 _ c.loop-e.e c.sources.ensures c.loop-e-test.true,
+  c.loop-e.invariant.1,
 )
 
 pub weighted-sum-requires : goal.weighted-sum-requires
 weighted-sum-requires c =
     let a = c.args in
-    let h = shape a.s c.requires.0 in
-    let counted : (c.sources.result + 1) / 2 ≡ pairs_of (k_of a.s) = ap (λ (k : ℕ). (k + 1) / 2) c.sources.ensures in (
-      omega (arith, within a.s c.requires.0 _ c.loop-e.e c.sources-in-loop-e.ensures c.loop-e-test.true),
+    let h = shape a.s c.requires.0 in (
+      omega (arith, within a.s c.requires.0 _ c.loop-e.e c.sources.ensures c.loop-e-test.true),
       omega (arith, count_few a.s c.requires.0),
-      subst⁻¹ (λ (m : ℕ). Paired m c.gather.new.pairs) counted
-          (still_paired a.s c.requires.0 a.rows.now a.due _ c.loop-e.pairs c.gather.new.pairs c.loop-e.invariant.3 c.gather.ensures c.loop-e.invariant.4),
+      subst⁻¹ (λ (m : ℕ). Paired m c.gather.new.pairs) c.pairs-count.ensures
+          (still_paired a.s c.requires.0 a.rows.now a.due _ c.loop-e.pairs c.gather.new.pairs c.loop-e.invariant.1
+          c.gather.ensures c.loop-e.invariant.2),
     )
-
-pub overflow_mul-e : goal.overflow_mul-e
-overflow_mul-e c = omega (arith, ends c.args.s c.requires.0 c.loop-e.e (length c.loop-e.out) c.loop-e.invariant.1 c.loop-e-test.true)
-
-pub slice_bounds-sum-end : goal.slice_bounds-sum-end
-slice_bounds-sum-end c = lanes_few c.args.s c.requires.0 c.weighted-sum.result (search rules)
 
 pub slice_bounds-write_at-end : goal.slice_bounds-write_at-end
 slice_bounds-write_at-end c = sym (lanes_long c.args.s c.requires.0 c.weighted-sum.result (search rules))
-
-pub write_at-requires : goal.write_at-requires
-write_at-requires c =
-    let s = c.args.s in
-    omega (
-      arith,
-      lanes_long s c.requires.0 c.weighted-sum.result (search rules),
-      ends s c.requires.0 c.loop-e.e (length c.loop-e.out) c.loop-e.invariant.1 c.loop-e-test.true,
-    )
 
 pub loop-e-preserved : goal.loop-e-preserved
 loop-e-preserved c =
     let a = c.args in
     let e : ℕ = c.loop-e.e in
-    let k : ℕ = c.sources-in-loop-e.result in
+    let k : ℕ = c.sources.result in
     let sum : List ℕ = c.weighted-sum.result in
+    let before : List (List ℕ) = c.loop-e.pairs in
+    let after : List (List ℕ) = c.gather.new.pairs in
+    let wide = c.loop-e.invariant.1 in
     let written : take a.s.lanes sum ≡ parity_of a.s a.rows.now a.due (k_of a.s + e) =
-    is_parity a.s c.requires.0 a.rows.now a.due (k + e) c.loop-e.pairs c.gather.new.pairs c.loop-e.invariant.3 c.gather.ensures
-    e ((c.sources.result + 1) / 2) sum c.systematic-form.result
-    (ap (λ (n : ℕ). n + e) c.sources-in-loop-e.ensures)
-    (within a.s c.requires.0 k e c.sources-in-loop-e.ensures c.loop-e-test.true)
-    (ap (λ (n : ℕ). (n + 1) / 2) c.sources.ensures) c.systematic-form.ensures c.weighted-sum.ensures
+    is_parity a.s c.requires.0 a.rows.now a.due (k + e) before after wide c.gather.ensures
+    e c.pairs-count.result sum c.systematic-form.result
+    (ap (λ (n : ℕ). n + e) c.sources.ensures)
+    (within a.s c.requires.0 k e c.sources.ensures c.loop-e-test.true)
+    c.pairs-count.ensures c.systematic-form.ensures c.weighted-sum.ensures
     (λ q. (c.type_inv.rows q).fits) in (
-      omega arith,
-      c.write_at.auto.out ∙ c.loop-e.invariant.1,
-      c.write_at.ensures ∙ parities_more a.s a.rows.now a.due e a.out.now c.loop-e.out (take a.s.lanes sum) c.loop-e.invariant.2 written,
-      still_wide a.s c.requires.0 a.rows.now a.due (k + e) c.loop-e.pairs c.gather.new.pairs c.loop-e.invariant.3 c.gather.ensures,
-      still_paired a.s c.requires.0 a.rows.now a.due (k + e) c.loop-e.pairs c.gather.new.pairs c.loop-e.invariant.3 c.gather.ensures c.loop-e.invariant.4,
+      c.write_at.ensures
+          ∙ parities_more a.s a.rows.now a.due e a.out.now c.loop-e.out (take a.s.lanes sum) c.loop-e.invariant.0 written,
+      still_wide a.s c.requires.0 a.rows.now a.due (k + e) before after wide c.gather.ensures,
+      still_paired a.s c.requires.0 a.rows.now a.due (k + e) before after wide c.gather.ensures c.loop-e.invariant.2,
     )
 
 pub returns : goal.returns
@@ -155,4 +124,4 @@ returns c =
     let a = c.args in
     let all : c.loop-e.e ≡ a.s.burst = omega arith in
     parities_all a.s a.rows.now a.due a.s.burst a.out.now c.loop-e.out c.requires.2
-    (c.loop-e.invariant.2 ∙ ap (λ (m : ℕ). parities_of a.s a.rows.now a.due m ++ drop (m * a.s.lanes) a.out.now) all)
+    (c.loop-e.invariant.0 ∙ ap (λ (m : ℕ). parities_of a.s a.rows.now a.due m ++ drop (m * a.s.lanes) a.out.now) all)

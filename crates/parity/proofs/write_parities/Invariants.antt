@@ -1,8 +1,8 @@
 -- A turn gathers the source symbols of one position; their sum by its column of the systematic form is the parity symbol of each lane.
 use mathlib.Core.Path.{◌≡◌}
 use mathlib.Core.List.{◌++◌}
-use Prim.Native.Nat.{◌-◌, ◌*◌, ◌≤◌}
-use lib.ListN.{length, drop}
+use Prim.Native.Nat.{◌*◌}
+use lib.ListN.{drop}
 use Rattle.gathering.specs.Pairs.{pairs_of, Wide, Paired}
 use Rattle.code.specs.Settings.{k_of}
 use Rattle.parity.specs.Parities.{parities_of}
@@ -10,9 +10,4 @@ use Rattle.parity.proofs.write_parities.Given as goal
 
 abbrev pub invariant-loop-e : goal.invariant-loop-e
 invariant-loop-e l =
-    (l.e ≤ l.s.burst) × (length l.out ≡ l.s.burst * l.s.lanes) × (l.out ≡ parities_of l.s l.rows l.due l.e ++ drop (l.e * l.s.lanes) l.initial.out)
-    × Wide l.pairs × Paired (pairs_of (k_of l.s)) l.pairs
-
-abbrev pub decreases-loop-e : goal.decreases-loop-e
-decreases-loop-e l =
-    l.s.burst - l.e
+    (l.out ≡ parities_of l.s l.rows l.due l.e ++ drop (l.e * l.s.lanes) l.initial.out) × Wide l.pairs × Paired (pairs_of (k_of l.s)) l.pairs

@@ -31,70 +31,46 @@ module _ (s : Settings) (h : Shape s) (t p : ℕ) where
   held rows x row i full below is =
       subst⁻¹ (λ (x : Source). x.start + s.lanes ≤ length rows) is (omega (arith, source_held s row i h below, full))
 
-pub overflow_sub-ring : goal.overflow_sub-ring
-overflow_sub-ring c = let h = shape c.args.s c.requires.0 in omega arith
-
-pub overflow_add-row : goal.overflow_add-row
-overflow_add-row c = let h = shape c.args.s c.requires.0 in omega arith
-
-pub overflow_sub-row : goal.overflow_sub-row
-overflow_sub-row c = let h = shape c.args.s c.requires.0 in omega arith
-
-pub nonzero_rem-row : goal.nonzero_rem-row
-nonzero_rem-row c = let h = shape c.args.s c.requires.0 in omega arith
-
 pub loop-j-init : goal.loop-j-init
 unfolding gathered_of
-loop-j-init c = (
-  omega arith,
-  ap (λ (n : ℕ). (c.args.due + (n - 1) - c.args.p) % (n - 1)) c.symbols-ring.ensures ∙ row_first c.args.s c.args.due c.args.p,
-  refl,
-)
-
-pub overflow_mul-j : goal.overflow_mul-j
-overflow_mul-j c = let h = shape c.args.s c.requires.0 in omega (arith, c.loop-j.invariant.0)
+loop-j-init c =
+    let a = c.args in
+    (ap (λ (n : ℕ). (a.due + (n - 1) - a.p) % (n - 1)) c.symbols-ring.ensures ∙ row_first a.s a.due a.p, refl)
 
 pub next_row-next-requires : goal.next_row-next-requires
 next_row-next-requires c =
     let a = c.args in
     let h = shape a.s c.requires.0 in
-    omega (arith, in_ring a.s h a.due a.p c.loop-j.row (c.loop-j.j * 2) c.loop-j.invariant.1)
-
-pub overflow_mul-j-in-loop-j : goal.overflow_mul-j-in-loop-j
-overflow_mul-j-in-loop-j c = let h = shape c.args.s c.requires.0 in omega (arith, c.loop-j.invariant.0)
+    omega (arith, in_ring a.s h a.due a.p c.loop-j.row (c.loop-j.j * 2) c.loop-j.invariant.0)
 
 pub source-first-requires : goal.source-first-requires
 source-first-requires c =
     let a = c.args in
     let h = shape a.s c.requires.0 in
-    (c.requires.0, in_ring a.s h a.due a.p c.loop-j.row (c.loop-j.j * 2) c.loop-j.invariant.1)
-
-pub overflow_mul-j-in-loop-j-2 : goal.overflow_mul-j-in-loop-j-2
-overflow_mul-j-in-loop-j-2 c = let h = shape c.args.s c.requires.0 in omega (arith, c.loop-j.invariant.0)
-
-pub overflow_add-j : goal.overflow_add-j
-overflow_add-j c = let h = shape c.args.s c.requires.0 in omega (arith, c.loop-j.invariant.0)
+    (c.requires.0, in_ring a.s h a.due a.p c.loop-j.row (c.loop-j.j * 2) c.loop-j.invariant.0)
 
 pub source-second-requires : goal.source-second-requires
 source-second-requires c =
     let a = c.args in
     let h = shape a.s c.requires.0 in
-    let next = row_after a.s h a.due a.p (c.symbols-ring.result - 1) c.loop-j.row (c.loop-j.j * 2) _ (omega arith) c.loop-j.invariant.1 c.next_row-next.ensures in
+    let next = row_after a.s h a.due a.p (c.symbols-ring.result - 1) c.loop-j.row (c.loop-j.j * 2) _ (omega arith)
+    c.loop-j.invariant.0 c.next_row-next.ensures in
     (c.requires.0, in_ring a.s h a.due a.p _ (c.loop-j.j * 2 + 1) next)
 
 pub pair_up-requires : goal.pair_up-requires
 pair_up-requires c =
     let a = c.args in
     let h = shape a.s c.requires.0 in
-    let next = row_after a.s h a.due a.p (c.symbols-ring.result - 1) c.loop-j.row (c.loop-j.j * 2) _ (omega arith) c.loop-j.invariant.1 c.next_row-next.ensures in
-    let few : c.loop-j.j ≤ 8 = omega (arith, c.loop-j.invariant.0) in (
-      omega arith,
+    let next = row_after a.s h a.due a.p (c.symbols-ring.result - 1) c.loop-j.row (c.loop-j.j * 2) _ (omega arith)
+    c.loop-j.invariant.0 c.next_row-next.ensures in
+    let few : c.loop-j.j ≤ 8 = omega (arith, c.pairs-j-end.ensures) in (
+      omega (arith, c.pairs-j-end.ensures),
       h.lanes_few,
       held a.s h a.due a.p a.rows.now _ c.loop-j.row (c.loop-j.j * 2) c.requires.1
-          (in_ring a.s h a.due a.p _ (c.loop-j.j * 2) c.loop-j.invariant.1) c.source-first.ensures,
+          (in_ring a.s h a.due a.p _ (c.loop-j.j * 2) c.loop-j.invariant.0) c.source-first.ensures,
       held a.s h a.due a.p a.rows.now _ c.next_row-next.result (c.loop-j.j * 2 + 1) c.requires.1
           (in_ring a.s h a.due a.p _ (c.loop-j.j * 2 + 1) next) c.source-second.ensures,
-      subst⁻¹ Wide c.loop-j.invariant.2
+      subst⁻¹ Wide c.loop-j.invariant.1
           (gathered_wide a.rows.now a.s.lanes (source_of a.s a.due a.p) a.pairs.now h.lanes_few c.requires.4 c.loop-j.j few),
     )
 
@@ -102,34 +78,29 @@ pub next_row-row-requires : goal.next_row-row-requires
 next_row-row-requires c =
     let a = c.args in
     let h = shape a.s c.requires.0 in
-    let next = row_after a.s h a.due a.p (c.symbols-ring.result - 1) c.loop-j.row (c.loop-j.j * 2) _ (omega arith) c.loop-j.invariant.1 c.next_row-next.ensures in
+    let next = row_after a.s h a.due a.p (c.symbols-ring.result - 1) c.loop-j.row (c.loop-j.j * 2) _ (omega arith)
+    c.loop-j.invariant.0 c.next_row-next.ensures in
     omega (arith, in_ring a.s h a.due a.p _ (c.loop-j.j * 2 + 1) next)
-
-pub overflow_add-j-in-loop-j : goal.overflow_add-j-in-loop-j
-overflow_add-j-in-loop-j c = let h = shape c.args.s c.requires.0 in omega (arith, c.loop-j.invariant.0)
-
-pub loop-j-smaller : goal.loop-j-smaller
-loop-j-smaller c = omega (arith, c.sources.ensures)
 
 pub loop-j-preserved : goal.loop-j-preserved
 loop-j-preserved c =
     let a = c.args in
     let h = shape a.s c.requires.0 in
     let j : ℕ = c.loop-j.j in
-    let next = row_after a.s h a.due a.p (c.symbols-ring.result - 1) c.loop-j.row (c.loop-j.j * 2) _ (omega arith) c.loop-j.invariant.1 c.next_row-next.ensures in
+    let next = row_after a.s h a.due a.p (c.symbols-ring.result - 1) c.loop-j.row (c.loop-j.j * 2) _ (omega arith)
+    c.loop-j.invariant.0 c.next_row-next.ensures in
     let turned : j * 2 + 1 + 1 ≡ (j + 1) * 2 = omega arith in (
-      omega (arith, c.sources.ensures),
       row_after a.s h a.due a.p (c.symbols-ring.result - 1) c.next_row-next.result (j * 2 + 1) _ (omega arith) next c.next_row-row.ensures
           ∙ ap (row_of a.s a.due a.p) turned,
       c.pair_up.ensures
           ∙ gathered_more a.rows.now a.s.lanes (source_of a.s a.due a.p) a.pairs.now j c.loop-j.pairs c.source-first.result
-          c.source-second.result c.loop-j.invariant.2
-          (c.source-first.ensures ∙ ap (λ (row : ℕ). source_in a.s row (j * 2)) c.loop-j.invariant.1)
+          c.source-second.result c.loop-j.invariant.1
+          (c.source-first.ensures ∙ ap (λ (row : ℕ). source_in a.s row (j * 2)) c.loop-j.invariant.0)
           (c.source-second.ensures ∙ ap (λ (row : ℕ). source_in a.s row (j * 2 + 1)) next),
     )
 
 pub returns : goal.returns
 returns c =
     let a = c.args in
-    let all : c.loop-j.j ≡ pairs_of (k_of a.s) = omega (arith, c.sources.ensures) in
-    c.loop-j.invariant.2 ∙ ap (λ (m : ℕ). gathered_of a.rows.now a.s.lanes (source_of a.s a.due a.p) m a.pairs.now) all
+    let all : c.loop-j.j ≡ pairs_of (k_of a.s) = omega (arith, c.pairs-j-end.ensures) in
+    c.loop-j.invariant.1 ∙ ap (λ (m : ℕ). gathered_of a.rows.now a.s.lanes (source_of a.s a.due a.p) m a.pairs.now) all

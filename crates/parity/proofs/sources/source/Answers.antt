@@ -19,18 +19,18 @@ few s row i m passed below inside is =
     let placed : row * m ≡ row * message_len s = ap (λ (n : ℕ). row * n) is in
     omega (arith, source_ends s shaped row i below inside, rows_few s shaped)
 
-pub overflow_mul-start : goal.overflow_mul-start
-overflow_mul-start c =
+pub overflow_mul-result : goal.overflow_mul-result
+overflow_mul-result c =
     let ends = few c.args.s c.args.row c.args.i c.message_len.result c.requires.0 c.requires.1 (omega arith) c.message_len.ensures in
     omega arith
 
-pub overflow_mul-start-then-i-sources : goal.overflow_mul-start-then-i-sources
-overflow_mul-start-then-i-sources c =
+pub overflow_mul-result-then-i-sources : goal.overflow_mul-result-then-i-sources
+overflow_mul-result-then-i-sources c =
     let ends = few c.args.s c.args.row c.args.i c.message_len.result c.requires.0 c.requires.1 (omega arith) c.message_len.ensures in
     omega arith
 
-pub overflow_add-start : goal.overflow_add-start
-overflow_add-start c =
+pub overflow_add-result : goal.overflow_add-result
+overflow_add-result c =
     let ends = few c.args.s c.args.row c.args.i c.message_len.result c.requires.0 c.requires.1 (omega arith) c.message_len.ensures in
     omega arith
 
@@ -40,5 +40,5 @@ returns-then-i-sources c =
     ap (λ (m : ℕ). record { start = a.row * m + a.i * a.s.lanes; keep = 255 }) c.message_len.ensures
     ∙ source_inside a.s a.row a.i (omega arith)
 
-pub returns : goal.returns
-returns c = source_past c.args.s c.args.row c.args.i (omega arith)
+pub returns-else-i-sources : goal.returns-else-i-sources
+returns-else-i-sources c = source_past c.args.s c.args.row c.args.i (omega arith)
