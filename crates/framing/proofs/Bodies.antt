@@ -1,14 +1,13 @@
--- A body is the message, whose symbols are the first k, and then the parity symbols; a frame is written in this order, after its header.
+-- A body is the message, whose symbols are the first k, and then the parity symbols.
 use mathlib.Core.Path.{◌≡◌, refl, sym, ap, ap₂, ◌∙◌}
 use mathlib.Core.List.{List, ◌++◌, append_assoc, append-nil}
 use Prim.Native.Nat.{ℕ, zero, suc, ◌+◌, ◌-◌, ◌*◌, ◌/◌, ◌%◌, ◌≤◌, ◌<◌}
 use native.Mathlib.Nat.{add-zero, add-suc, suc-mul, mul-le-mul_right, div-add-mod', div-lt_iff_lt-mul}
 use native.Mathlib.Omega.{arith}
 use borrow.Author.Tests.{lt-ltb, le-ltb}
-use borrow.Rule.Slice.PartMut.{put_mid}
 use lib.Arith.{digits_div, digits_mod}
-use lib.ListN.{length, get_or, take, drop, length-append, length-drop, drop_of_length-le}
-use lib.Seq.{ext_get_or, get_or-take, get_or-drop, length-take-le, take-add, take_at, take_all}
+use lib.ListN.{length, get_or, take, drop, length-drop}
+use lib.Seq.{ext_get_or, get_or-take, get_or-drop, length-take-le, take-add, take_all}
 use Rattle.galois.proofs.ByIndex.{get_or-table, is_table}
 use Rattle.code.specs.declared.settings.Settings.{Settings}
 use Rattle.code.specs.Settings.{k_of, n_of}
@@ -61,7 +60,8 @@ module _ (s : Settings) (rows message : List ℕ) (due : ℕ) (h : Shape s) (exa
       (λ v hv.
       get_or-take s.lanes (drop (p * s.lanes) body) v 0 hv
       ∙ get_or-drop (p * s.lanes) body v 0
-      ∙ get_or-table (body_len s) (λ q. sent_symbol s rows message due (q / s.lanes) (q % s.lanes)) (p * s.lanes + v) 0 (omega (arith, ends))
+      ∙ get_or-table (body_len s) (λ q. sent_symbol s rows message due (q / s.lanes) (q % s.lanes)) (p * s.lanes + v) 0
+      (omega (arith, ends))
       ∙ ap₂ (λ (a b : ℕ). sent_symbol s rows message due a b) (digits_div p hv) (digits_mod p hv)
       ∙ rw (le-ltb p (k_of s) past, sent_symbol) refl)
 
@@ -85,20 +85,3 @@ module _ (s : Settings) (rows message : List ℕ) (due : ℕ) (h : Shape s) (exa
       sym (body_parities s.burst (omega arith))
       ∙ ap (λ (n : ℕ). take (n * s.lanes) body) all
       ∙ take_all (n_of s * s.lanes) body (omega (arith, length-body s rows message due))
-
--- a header, a message and the rest, written one after another
-pub three_written : (frame head message one two rest : List ℕ) → length head ≡ 14
-    → one ≡ take 0 frame ++ head ++ drop (0 + length head) frame
-    → two ≡ take 14 one ++ message ++ drop (14 + length message) one
-    → let start = 14 + length message in
-    put_mid start (length two - start) two rest ≡ head ++ (message ++ rest)
-three_written frame head message one two rest fourteen is_one is-two =
-    let start : ℕ = 14 + length message in
-    let after : List ℕ = drop start one in
-    let headed : take 14 one ≡ head = ap (take 14) is_one ∙ take_at head (drop (0 + length head) frame) 14 fourteen in
-    let front : take start two ≡ head ++ message =
-    ap (take start) (is-two ∙ ap (λ (l : List ℕ). l ++ message ++ after) headed)
-    ∙ take_at (head ++ message) after start (length-append head message ∙ ap (λ (n : ℕ). n + length message) fourteen) in
-    let none : length (drop start two) ≤ length two - start = omega (arith, length-drop start two) in
-    ap₂ ◌++◌ front (ap (λ (l : List ℕ). rest ++ l) (drop_of_length-le (drop start two) none) ∙ append-nil rest)
-    ∙ append_assoc head message rest

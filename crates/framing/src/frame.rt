@@ -4,12 +4,12 @@ ghost use Rattle.code.specs.Settings.{accepted};
 ghost use Rattle.protocol.specs.Frame.{frame_of};
 ghost use Rattle.protocol.specs.Lengths.{message_len, frame_len, sender_len};
 
-use buffers::write_at;
 use code::Settings;
 use frames::header_bytes;
 use parity::write_parities;
 
 // Writes the frame of this version for the slot due, from the message and the rows.
+#[tactic(auto, using(code::proofs::Shape::shape))]
 pub fn write_frame(
     frame: &mut [u8],
     rows: &[u8],
@@ -22,9 +22,9 @@ pub fn write_frame(
         × (length frame.old ≡ frame_len s) }
     ensures { frame.new ≡ frame_of version s rows.now message.now due }
 {
-    let head = header_bytes(version, s, due);
-    write_at(frame, 0, &head);
-    write_at(frame, 14, message);
-    let start = 14 + message.len();
-    write_parities(&mut frame[start..], rows, s, due);
+    let (head, body) = frame.split_at_mut(14);
+    head.copy_from_slice(&header_bytes(version, s, due));
+    let (sources, parities) = body.split_at_mut(message.len());
+    sources.copy_from_slice(message);
+    write_parities(parities, rows, s, due);
 }

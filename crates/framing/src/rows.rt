@@ -4,14 +4,15 @@ ghost use Rattle.code.specs.Settings.{accepted, n_of};
 ghost use Rattle.protocol.specs.Lengths.{message_len, sender_len};
 ghost use Rattle.protocol.specs.Rows.{put_row};
 
-use buffers::write_at;
 use code::Settings;
 
 // Writes the message of the slot due over its row.
+#[tactic(auto, using(code::proofs::Shape::shape))]
 pub fn remember(rows: &mut [u8], message: &[u8], s: Settings, due: u32)
     requires { T (accepted s) × (length rows.old ≡ sender_len s) × (length message.now ≡ message_len s) }
     ensures { rows.new ≡ put_row (message_len s) (due % (n_of s - 1)) message.now rows.old }
 {
     let row = due as usize % (s.symbols() - 1);
-    write_at(rows, row * message.len(), message);
+    let start = row * message.len();
+    rows[start..start + message.len()].copy_from_slice(message);
 }

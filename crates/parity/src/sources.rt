@@ -44,7 +44,8 @@ pub(crate) fn gather(pairs: &mut [[u8; 64]; 32], rows: &[u8], s: Settings, due: 
     let lanes = s.lanes as usize;
     let ring = s.symbols() - 1;
     let mut row = (due as usize + ring - p) % ring;
-    for j in 0..s.pairs() {
+    let count = s.pairs();
+    for j in 0..count {
         let next = next_row(row, ring);
         let first = source(s, row, j * 2);
         let second = source(s, next, j * 2 + 1);

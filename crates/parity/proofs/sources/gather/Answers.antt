@@ -63,8 +63,8 @@ pair_up-requires c =
     let h = shape a.s c.requires.0 in
     let next = row_after a.s h a.due a.p (c.symbols-ring.result - 1) c.loop-j.row (c.loop-j.j * 2) _ (omega arith)
     c.loop-j.invariant.0 c.next_row-next.ensures in
-    let few : c.loop-j.j ≤ 8 = omega (arith, c.pairs-j-end.ensures) in (
-      omega (arith, c.pairs-j-end.ensures),
+    let few : c.loop-j.j ≤ 8 = omega (arith, c.pairs-count.ensures) in (
+      omega (arith, c.pairs-count.ensures),
       h.lanes_few,
       held a.s h a.due a.p a.rows.now _ c.loop-j.row (c.loop-j.j * 2) c.requires.1
           (in_ring a.s h a.due a.p _ (c.loop-j.j * 2) c.loop-j.invariant.0) c.source-first.ensures,
@@ -102,5 +102,5 @@ loop-j-preserved c =
 pub returns : goal.returns
 returns c =
     let a = c.args in
-    let all : c.loop-j.j ≡ pairs_of (k_of a.s) = omega (arith, c.pairs-j-end.ensures) in
+    let all : c.loop-j.j ≡ pairs_of (k_of a.s) = omega (arith, c.pairs-count.ensures) in
     c.loop-j.invariant.1 ∙ ap (λ (m : ℕ). gathered_of a.rows.now a.s.lanes (source_of a.s a.due a.p) m a.pairs.now) all
