@@ -5,7 +5,8 @@ use mathlib.Core.Logic.{◌≢◌}
 use Prim.Native.Nat.{ℕ, zero, suc, ◌<◌}
 use native.Mathlib.Nat.{le_of_lt, suc-ne-zero}
 use lib.ListN.{get_or}
-use Rattle.galois.specs.Reciprocal.{Reciprocal, none, element, numbered, divided_by}
+use Rattle.std.specs.Prelude.{Option, None, Some, MatchOption}
+use Rattle.galois.specs.Reciprocal.{Reciprocal, none, element, numbered, answered, divided_by}
 
 -- an answer is known by its number and values
 pub numbered_tells : (a b : Reciprocal) → numbered a ≡ numbered b → a ≡ b
@@ -73,6 +74,13 @@ module _ {bound : ℕ} {◌+◌ ◌·◌ : ℕ → ℕ → ℕ} {reciprocal : �
   pub by_element : (x y r : ℕ) → reciprocal y ≡ element r → x ÷ y ≡ x · r
   unfolding divided_by
   by_element x y r e = F.divides x y ∙ ap (divided_by ◌·◌ x) e
+
+  -- by the answer of code: what holds of the result where there is none makes it 0, and what holds where there is one makes it the product
+  pub by_answer : {A : Type 0} (number : A → ℕ) (answer : Option A) (x y q : ℕ) (Zero : Type 0) (Product : A → Type 0)
+      → answered number answer ≡ reciprocal y → MatchOption answer Zero Product
+      → (Zero → q ≡ 0) → ((r : A) → Product r → q ≡ x · number r) → q ≡ x ÷ y
+  by_answer number None x y q Zero Product e is to_zero to_product = to_zero is ∙ sym (by_none x y (sym e))
+  by_answer number (Some r) x y q Zero Product e is to_zero to_product = to_product r is ∙ sym (by_element x y (number r) (sym e))
 
   -- it is an element
   pub quotient_below : (x y : ℕ) → x < bound → y < bound → x ÷ y < bound

@@ -1,8 +1,8 @@
 -- The narrow numbers are a field. The product is additive, so that its laws are computed at powers of two.
 use mathlib.Core.Path.{◌≡◌, refl, sym, ap, ap₂, ◌∙◌, subst⁻¹}
 use mathlib.Core.Bool.{Bool, cond, not, and-false, ◌&&◌}
-use mathlib.Core.Logic.{◌≢◌}
-use Prim.Native.Nat.{ℕ, zero, suc, ◌*◌, ◌/◌, ◌%◌, ◌^◌, ◌<◌}
+use mathlib.Core.Logic.{◌≢◌, ◌⊎◌, ⊎_elim}
+use Prim.Native.Nat.{ℕ, zero, suc, ◌*◌, ◌/◌, ◌%◌, ◌^◌, ◌<◌, ◌≤◌}
 use native.Mathlib.Nat.{mod-lt, zero-lt-suc, le_of_suc-le-suc, not-suc-le-zero}
 use native.Mathlib.Omega.{arith}
 use lib.Bits.{bit_xor, xor_shr, xor_mod}
@@ -26,6 +26,11 @@ above_left a b r h = rw (le-ltb a 16 h)
 pub above_right : (a b r : ℕ) → a < 16 → 15 < b → narrow a b r ≡ 0
 unfolding narrow
 above_right a b r ha hb = rw (lt-ltb a 16 ha, le-ltb b 16 hb)
+
+-- as code tests it: the first number, and where that is not above 15 the second
+pub above_either : (a b r : ℕ) → (15 < a) ⊎ ((a ≤ 15) × (15 < b)) → 0 ≡ narrow a b r
+above_either a b r =
+    ⊎_elim (λ first. sym (above_left a b r first)) (λ second. sym (above_right a b r (omega arith) second.1))
 
 -- a sum with a number above 15 is 0
 pub plus_above : (a b : ℕ) → 15 < b → a ⊞ b ≡ 0

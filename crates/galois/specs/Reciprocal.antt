@@ -1,5 +1,5 @@
 -- Document 02 §2: what a field answers for a reciprocal, and what dividing by that answer gives.
-use Rattle.std.specs.Prelude.{◌≡◌, List, [], ◌∷◌, ℕ, ◌<◌, get_or}
+use Rattle.std.specs.Prelude.{◌≡◌, List, [], ◌∷◌, ℕ, ◌<◌, get_or, Option, None, Some}
 
 -- none, or the element
 pub data Reciprocal : Type 0 where
@@ -10,6 +10,11 @@ pub data Reciprocal : Type 0 where
 abbrev pub numbered : Reciprocal → ℕ × List ℕ
 numbered none = (0, [])
 numbered (element x) = (1, x ∷ [])
+
+-- what the code answers, of either field, whose elements have their numbers: none, or the number of the element
+abbrev pub answered : {A : Type 0} → (A → ℕ) → Option A → Reciprocal
+answered number None = none
+answered number (Some x) = element (number x)
 
 -- x divided by a number, by the field's product and the answer for the number's reciprocal: 0 on none
 unfoldable pub divided_by : (ℕ → ℕ → ℕ) → ℕ → Reciprocal → ℕ

@@ -23,10 +23,7 @@ impl Gf16 {
     {
         let a = self.0;
         let b = other.0;
-        if 15 < a {
-            return Gf16(0);
-        }
-        if 15 < b {
+        if 15 < a || 15 < b {
             return Gf16(0);
         }
         Gf16(a ^ b)
@@ -35,12 +32,7 @@ impl Gf16 {
     pub fn product(self, other: Gf16) -> Gf16
         ensures { result.0 ≡ self.0 ⊠ other.0 }
     {
-        let x = self.0;
-        let y = other.0;
-        if 15 < x {
-            return Gf16(0);
-        }
-        if 15 < y {
+        if 15 < self.0 || 15 < other.0 {
             return Gf16(0);
         }
         self.narrow_product(other)
@@ -74,10 +66,9 @@ impl Gf16 {
     pub fn quotient(self, other: Gf16) -> Gf16
         ensures { result.0 ≡ narrow_quotient self.0 other.0 }
     {
-        match other.reciprocal() {
-            None => Gf16(0),
-            Some(inverse) => self.product(inverse),
-        }
+        other
+            .reciprocal()
+            .map_or(Gf16(0), |inverse| self.product(inverse))
     }
 }
 

@@ -64,31 +64,31 @@ impl Gf256 {
         requires { Reciprocals table.now }
         ensures { answered result ≡ reciprocal self.0 }
     {
-        let x = self.0;
-        if x == 0 {
-            return None;
+        if self.0 == 0 {
+            None
+        } else {
+            Some(Gf256(table[self.0 as usize]))
         }
-        Some(Gf256(table[x as usize]))
     }
 
+    // Either field's quotient is this one line over its own product: a trait over both would have to say product, reciprocal and 0 again.
     pub fn quotient(self, other: Gf256) -> Gf256
         ensures { result.0 ≡ quotient self.0 other.0 }
     {
-        match other.reciprocal() {
-            None => Gf256(0),
-            Some(inverse) => self.product(inverse),
-        }
+        other
+            .reciprocal()
+            .map_or(Gf256(0), |inverse| self.product(inverse))
     }
 
-    // The byte that is a narrow number.
+    // The byte that is a narrow number, and 0 for a number above 15, so it is no `From`: that would keep every value apart.
     pub fn widened(number: Gf16) -> Gf256
         ensures { result.0 ≡ widen number.0 }
     {
-        let n = number.0;
-        if 15 < n {
-            return Gf256(0);
+        if 15 < number.0 {
+            Gf256(0)
+        } else {
+            Gf256(number.0)
         }
-        Gf256(n)
     }
 
     // The h and the l of 16h + l.

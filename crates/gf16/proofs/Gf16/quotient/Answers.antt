@@ -1,14 +1,16 @@
 -- `quotient` is the product with the reciprocal, and 0 where there is none.
-use mathlib.Core.Path.{◌∙◌, sym, ap}
-use Rattle.galois.proofs.Field.{by_none, by_element}
+use Rattle.std.proofs.Common.{rules, ap}
+use Prim.Native.Nat.{ℕ}
+use Rattle.galois.proofs.Field.{by_answer}
 use Rattle.galois.proofs.NarrowField.{narrows}
-use Rattle.gf16.specs.Answer.{answered}
+use Rattle.gf16.specs.declared.Gf16.{Gf16}
 use Rattle.gf16.proofs.Gf16.quotient.Goals as goal
 
-pub returns-in-None : goal.returns-in-None
-returns-in-None c =
-    sym (by_none narrows _ _ (sym c.reciprocal.ensures ∙ ap answered c.in-None.is))
+number : Gf16 → ℕ
+number x = x.0
 
-pub returns-in-Some : goal.returns-in-Some
-returns-in-Some c =
-    c.product.ensures ∙ sym (by_element narrows _ _ _ (sym c.reciprocal.ensures ∙ ap answered c.in-Some.is))
+pub returns : goal.returns
+unfolding number
+returns c =
+    by_answer narrows number c.reciprocal.result c.args.self.0 c.args.other.0 c.map_or.result.0 _ _ c.reciprocal.ensures c.map_or.ensures
+    (λ zero. ap number zero) (λ inverse product. search rules)

@@ -2,21 +2,13 @@
 use Prim.Native.Nat.{◌<◌}
 use native.Mathlib.Omega.{arith}
 use Rattle.galois.specs.Narrow.{◌⊞◌}
-use Rattle.galois.proofs.NarrowField.{above_left, above_right, both_narrow}
+use Rattle.galois.proofs.NarrowField.{above_either, both_narrow}
 use Rattle.gf16.proofs.Gf16.sum.Goals as goal
 
 pub returns-then-a-gt15 : goal.returns-then-a-gt15
 unfolding ◌⊞◌
 returns-then-a-gt15 c =
-    let above : 15 < c.args.self.0 = omega arith in
-    rw above_left
-
-pub returns-then-b-gt15 : goal.returns-then-b-gt15
-unfolding ◌⊞◌
-returns-then-b-gt15 c =
-    let a : c.args.self.0 < 16 = omega arith in
-    let above : 15 < c.args.other.0 = omega arith in
-    rw above_right
+    above_either _ _ _ c.then-a-gt15.either
 
 pub returns : goal.returns
 unfolding ◌⊞◌

@@ -6,12 +6,12 @@ use Rattle.galois.specs.Byte.{reciprocal}
 use Rattle.galois.proofs.ByteField.{bytes}
 use Rattle.gf256.proofs.Gf256.reciprocal_in.Goals as goal
 
-pub returns-then-x-eq0 : goal.returns-then-x-eq0
-returns-then-x-eq0 c =
+pub returns-then-self-eq0 : goal.returns-then-self-eq0
+returns-then-self-eq0 c =
     let zero : c.args.self.0 ≡ 0 = omega arith in
     sym (ap reciprocal zero ∙ bytes.none_of_zero)
 
-pub returns : goal.returns
+pub returns-else-self-eq0 : goal.returns-else-self-eq0
 unfolding Listed
-returns c =
+returns-else-self-eq0 c =
     sym (c.requires c.args.self.0 (omega arith) (omega arith))
