@@ -1,12 +1,8 @@
 -- Each way out is one entry of the table.
 use borrow.Author.Tests.{lt-ltb, le-ltb}
-use mathlib.Core.Path.{◌≡◌, sym, ◌∙◌}
-use mathlib.Core.Bool.{false}
+use mathlib.Core.Path.{sym, ◌∙◌}
 use native.Mathlib.Omega.{arith}
-use lib.Dec.{ltb}
 use lib.ListN.{length}
-use Rattle.protocol.specs.Frame.{mark}
-use Rattle.protocol.specs.Causes.{agree}
 use Rattle.protocol.proofs.HeaderTests.{mark_test}
 use Rattle.frames.specs.Fields.{slot_read_cause}
 use Rattle.frames.proofs.reading.slot_read_cause.Goals as goal
@@ -19,13 +15,11 @@ returns-then-frame-lt14 c =
 pub returns-then-not-agrees : goal.returns-then-not-agrees
 unfolding slot_read_cause
 returns-then-not-agrees c =
-    let enough : ltb (length c.args.frame.now) 14 ≡ false = le-ltb (length c.args.frame.now) 14 (omega (arith, c)) in
-    let marked : c.agrees.result ≡ agree 5 c.args.frame.now (mark 1) = c.agrees.ensures ∙ mark_test 1 c.settings_at.result 0 c.args.frame.now _ c.header_bytes-head.ensures in
-    rw (enough, sym (marked) ∙ c.if-not-agrees.true)
+    let mark = mark_test 1 c.settings_at.result 0 c.args.frame.now _ c.header_bytes-head.ensures in
+    rw (le-ltb (length c.args.frame.now) 14 (omega (arith, c)), sym mark ∙ sym c.agrees.ensures ∙ c.if-not-agrees.true)
 
 pub returns : goal.returns
 unfolding slot_read_cause
 returns c =
-    let enough : ltb (length c.args.frame.now) 14 ≡ false = le-ltb (length c.args.frame.now) 14 (omega (arith, c)) in
-    let marked : c.agrees.result ≡ agree 5 c.args.frame.now (mark 1) = c.agrees.ensures ∙ mark_test 1 c.settings_at.result 0 c.args.frame.now _ c.header_bytes-head.ensures in
-    rw (enough, sym (marked) ∙ c.if-not-agrees.false)
+    let mark = mark_test 1 c.settings_at.result 0 c.args.frame.now _ c.header_bytes-head.ensures in
+    rw (le-ltb (length c.args.frame.now) 14 (omega (arith, c)), sym mark ∙ sym c.agrees.ensures ∙ c.if-not-agrees.false)
