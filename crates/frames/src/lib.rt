@@ -1,4 +1,5 @@
-// What bytes say of themselves: settings and a slot, from a place on; the header of a frame, and whether a frame has it.
+// What bytes say of themselves: settings and a slot, from a place on; the header of a frame, and whether a frame has it. That a frame has
+// room for a header stays a clause of each function: `agrees` and `header_cause`, which docs/ names, take any slice.
 #![tactic(auto)]
 
 mod header;
