@@ -7,8 +7,7 @@ ghost use Rattle.std.specs.Prelude.{◌≡◌, ◌≤◌, ◌<◌, length};
 
 use code::Settings;
 use output::Output;
-use protocol::{Cause, Receiver, Sender, Told};
-use receiver::Reported;
+use protocol::{Cause, Outcome, Receiver, Sender, Told};
 use std::io::{self, BufWriter, Write};
 
 // The card's settings with so many lanes; k is 2 and n is 4.
@@ -111,7 +110,7 @@ fn send<W: Write>(
     let sent = sender::send(x, rows, message, frame);
     out.put(b" ");
     print_bytes(out, frame, first);
-    sent.sender
+    sent.state
 }
 
 // The sends of slots 0 to 5. There are 26 bytes for each frame.
@@ -126,7 +125,7 @@ fn send_all<W: Write>(
 {
     let opened = sender::open(s, rows);
     let lanes = s.lanes as usize;
-    let mut x = opened.sender;
+    let mut x = opened.state;
     let mut slot: usize = 0;
     while slot < 6 {
         let message = message_of(lanes, slot);
@@ -152,7 +151,7 @@ fn reported(
     rows: &mut [u8],
     frame: &[u8],
     message: &mut [u8],
-) -> Reported {
+) -> Outcome<Told, Receiver> {
     if lost {
         return receiver::loss(x, rows, message);
     }
@@ -168,9 +167,8 @@ fn report<W: Write>(
     message: &mut [u8],
 ) -> Receiver {
     let after = reported(x, lost, rows, frame, message);
-    let reply = after.reply;
-    print_reply(out, reply, message);
-    after.receiver
+    print_reply(out, after.answer, message);
+    after.state
 }
 
 // The report of the frame of a slot, one of six, that another sender sent, if there is one.
@@ -207,7 +205,7 @@ fn report_all<W: Write>(
 {
     let opened = receiver::open(s, 0, rows);
     let lanes = s.lanes as usize;
-    let mut x = opened.receiver;
+    let mut x = opened.state;
     let mut slot: usize = 0;
     while slot < 6 {
         let start = slot * 26;

@@ -7,8 +7,7 @@ ghost use Rattle.lines.specs.Text.{stop_line, line_of, written};
 ghost use Rattle.progress.specs.Refusal.{refuses};
 
 use lines::{write_line, write_stop};
-use protocol::{Cause, Receiver};
-use receiver::Reported;
+use protocol::{Cause, Outcome, Receiver, Told};
 
 // What a player keeps between two steps: the receiver, and where in the recording the next frame starts.
 #[derive(Clone, Copy)]
@@ -49,29 +48,33 @@ pub fn stopped(p: Player, c: Cause, line: &mut [u8]) -> Progress
     let len = write_stop(c, line);
     Progress {
         player: p,
-        len: len,
+        len,
         over: true,
     }
 }
 
 // A report by this receiver, told on the line; the next frame starts at the offset, and a refused report is the last.
-pub fn told(x: Receiver, offset: usize, r: Reported, message: &[u8], line: &mut [u8]) -> Progress
+pub fn told(
+    x: Receiver,
+    offset: usize,
+    r: Outcome<Told, Receiver>,
+    message: &[u8],
+    line: &mut [u8],
+) -> Progress
     requires { 18 + 2 * length message.now ≤ length line.old }
-    ensures player { result.player ≡ record { receiver = r.receiver; offset = offset } }
-    ensures len { result.len ≡ length (line_of (message_due x.settings x.due) r.reply message.now) }
-    ensures over { result.over ≡ refuses r.reply }
+    ensures player { result.player ≡ record { receiver = r.state; offset = offset } }
+    ensures len { result.len ≡ length (line_of (message_due x.settings x.due) r.answer message.now) }
+    ensures over { result.over ≡ refuses r.answer }
     ensures line { line.new
-        ≡ written (line_of (message_due x.settings x.due) r.reply message.now) line.old }
+        ≡ written (line_of (message_due x.settings x.due) r.answer message.now) line.old }
 {
-    let reply = r.reply;
-    let after = r.receiver;
-    let len = write_line(about(x), reply, message, line);
+    let len = write_line(about(x), r.answer, message, line);
     Progress {
         player: Player {
-            receiver: after,
-            offset: offset,
+            receiver: r.state,
+            offset,
         },
-        len: len,
-        over: reply.is_err(),
+        len,
+        over: r.answer.is_err(),
     }
 }

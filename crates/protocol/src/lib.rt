@@ -1,11 +1,13 @@
-// The states of both ends, why a call says no, and what it tells. Each call is a definition in specs/, the demands are statements about these
-// definitions, and proofs/ has their theorems.
+// The states of both ends, why a call says no, and what it tells. Each call is a definition in specs/, the demands are statements about
+// these definitions, and proofs/ has their theorems.
 #![tactic(auto)]
 
 mod numbers;
+mod outcome;
 mod states;
 
 use code::Settings;
+pub use outcome::Outcome;
 
 // A slot's number.
 #[derive(Clone, Copy)]

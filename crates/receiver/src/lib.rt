@@ -11,5 +11,4 @@ mod report;
 pub use frame_report::heard;
 pub use lookup::look_up;
 pub use loss_report::loss;
-pub use opening::{Opened, open};
-pub use report::Reported;
+pub use opening::open;

@@ -6,31 +6,21 @@ use buffers::row_len;
 use causes::open_receiver_cause;
 use code::Settings;
 use ends::opened_receiver;
-use protocol::{Cause, Receiver};
+use protocol::{Outcome, Receiver};
 use ring::write_opened;
-
-// What an opening gives back.
-#[derive(Clone, Copy)]
-pub struct Opened {
-    pub answer: Result<(), Cause>,
-    pub receiver: Receiver,
-}
 
 // Opens a receiver at this slot: its rows are lost from slot 0 to the one before it, and received zeros before slot 0. So row r is lost
 // exactly if r is below the slot.
-pub fn open(s: Settings, slot: u32, rows: &mut [u8]) -> Opened
-    ensures { record { answer = result.answer; receiver = result.receiver; rows = rows.new }
+pub fn open(s: Settings, slot: u32, rows: &mut [u8]) -> Outcome<(), Receiver>
+    ensures { record { answer = result.answer; receiver = result.state; rows = rows.new }
         ≡ open_receiver_of s slot rows.old }
 {
     if let Err(c) = open_receiver_cause(s, slot, rows) {
-        return Opened {
-            answer: Err(c),
-            receiver: Receiver::NONE,
-        };
+        return Outcome::refused(c, Receiver::NONE);
     }
     write_opened(rows, row_len(s), slot);
-    Opened {
+    Outcome {
         answer: Ok(()),
-        receiver: opened_receiver(s, slot),
+        state: opened_receiver(s, slot),
     }
 }

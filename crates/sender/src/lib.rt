@@ -3,4 +3,4 @@
 
 mod calls;
 
-pub use calls::{Opened, Sent, open, send};
+pub use calls::{open, send};

@@ -20,7 +20,7 @@ pub fn begin(s: Settings, rows: &mut [u8], message: &mut [u8]) -> Player
 {
     let opened = receiver::open(s, 0, rows);
     clear(message);
-    let x = opened.receiver;
+    let x = opened.state;
     Player {
         receiver: x,
         offset: 0,

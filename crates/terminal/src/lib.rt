@@ -5,13 +5,18 @@ ghost use Rattle.std.specs.Prelude.{◌≡◌};
 ghost use Rattle.protocol.specs.TwoLists.{report_of};
 ghost use Rattle.terminal.specs.Given.{report_in};
 
-use protocol::{Cause, Receiver, Told};
-use receiver::Reported;
+use protocol::{Cause, Outcome, Receiver, Told};
 
 // A report by value: of a frame where `heard`, else of a loss, which has no frame to read.
 #[tactic(auto, unfolding(crate::specs::Given::report_in, protocol::specs::TwoLists::report_of))]
-fn reported(x: Receiver, rows: &mut [u8], heard: bool, frame: &[u8], message: &mut [u8]) -> Reported
-    ensures { record { reply = result.reply; receiver = result.receiver; rows = rows.new; message = message.new }
+fn reported(
+    x: Receiver,
+    rows: &mut [u8],
+    heard: bool,
+    frame: &[u8],
+    message: &mut [u8],
+) -> Outcome<Told, Receiver>
+    ensures { record { reply = result.answer; receiver = result.state; rows = rows.new; message = message.new }
         ≡ report_of x rows.old (report_in heard frame.now message.old) }
 {
     if heard {
@@ -32,8 +37,8 @@ pub fn report(
         ≡ report_of x.old rows.old (report_in heard frame.now message.old) }
 {
     let r = reported(*x, rows, heard, frame, message);
-    *x = r.receiver;
-    r.reply
+    *x = r.state;
+    r.answer
 }
 
 // A receiver that is kept in a local and lent once: for callers whose state goes by value.
@@ -43,14 +48,11 @@ pub fn report_kept(
     heard: bool,
     frame: &[u8],
     message: &mut [u8],
-) -> Reported
-    ensures { record { reply = result.reply; receiver = result.receiver; rows = rows.new; message = message.new }
+) -> Outcome<Told, Receiver>
+    ensures { record { reply = result.answer; receiver = result.state; rows = rows.new; message = message.new }
         ≡ report_of x rows.old (report_in heard frame.now message.old) }
 {
-    let mut kept = x;
-    let reply = report(&mut kept, rows, heard, frame, message);
-    Reported {
-        reply: reply,
-        receiver: kept,
-    }
+    let mut state = x;
+    let answer = report(&mut state, rows, heard, frame, message);
+    Outcome { answer, state }
 }

@@ -18,7 +18,7 @@ pub extern "C" fn tob_open_sender(settings: &[u8; 5], state: &mut [u8], rows: &m
         return u32::from(c);
     }
     let r = sender::open(s, rows);
-    save_answer(r.answer, sender_bytes(r.sender), state)
+    save_answer(r.answer, sender_bytes(r.state), state)
 }
 
 // Opens a receiver at slot 0.
@@ -46,5 +46,5 @@ pub extern "C" fn tob_open_receiver_at(
         return u32::from(c);
     }
     let r = receiver::open(s, slot, rows);
-    save_answer(r.answer, receiver_bytes(r.receiver), state)
+    save_answer(r.answer, receiver_bytes(r.state), state)
 }

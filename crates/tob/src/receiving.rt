@@ -20,7 +20,7 @@ pub extern "C" fn tob_heard(
         return u32::from(c);
     }
     let r = receiver::heard(receiver_in(state), rows, frame, message);
-    save_reply(r.reply, receiver_bytes(r.receiver), state)
+    save_reply(r.answer, receiver_bytes(r.state), state)
 }
 
 // The report that the slot due was lost.
@@ -33,7 +33,7 @@ pub extern "C" fn tob_lost(state: &mut [u8], rows: &mut [u8], message: &mut [u8]
         return u32::from(c);
     }
     let r = receiver::loss(receiver_in(state), rows, message);
-    save_reply(r.reply, receiver_bytes(r.receiver), state)
+    save_reply(r.answer, receiver_bytes(r.state), state)
 }
 
 // Tells of the message with this number by the slots reported so far. State and rows are lent to read.

@@ -20,5 +20,5 @@ pub extern "C" fn tob_send(
         return u32::from(c);
     }
     let r = sender::send(sender_in(state), rows, message, frame);
-    save_answer(r.answer, sender_bytes(r.sender), state)
+    save_answer(r.answer, sender_bytes(r.state), state)
 }

@@ -23,7 +23,7 @@ pub fn open_sender<W: Write>(
     let rows_end = end(rows.len(), cut);
     let opened = sender::open(s, &mut rows[0..rows_end]);
     print::opened_sender(out, opened, rows);
-    opened.sender
+    opened.state
 }
 
 // An opening of the receiver at this slot.
@@ -39,7 +39,7 @@ pub fn open_receiver<W: Write>(
     let rows_end = end(rows.len(), cut);
     let opened = receiver::open(s, slot, &mut rows[0..rows_end]);
     print::opened_receiver(out, opened, rows);
-    opened.receiver
+    opened.state
 }
 
 // A send.
@@ -64,7 +64,7 @@ pub fn send<W: Write>(
         &mut frame[0..frame_end],
     );
     print::sent(out, sent, frame, rows);
-    sent.sender
+    sent.state
 }
 
 // The report of a frame.
@@ -89,7 +89,7 @@ pub fn heard<W: Write>(
         &mut buffer[0..buffer_end],
     );
     print::reported(out, b"frame", reported, buffer, rows);
-    reported.receiver
+    reported.state
 }
 
 // The report of a loss.
@@ -107,5 +107,5 @@ pub fn loss<W: Write>(
     let buffer_end = end(buffer.len(), call.first);
     let reported = receiver::loss(x, &mut rows[0..rows_end], &mut buffer[0..buffer_end]);
     print::reported(out, b"loss", reported, buffer, rows);
-    reported.receiver
+    reported.state
 }

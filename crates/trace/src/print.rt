@@ -3,7 +3,7 @@ ghost use Rattle.std.specs.Prelude.{◌<◌};
 
 use code::Settings;
 use output::Output;
-use protocol::{Cause, Receiver, Sender, Told};
+use protocol::{Cause, Outcome, Receiver, Sender, Told};
 use std::io::Write;
 
 // A number.
@@ -94,12 +94,14 @@ fn line_end<W: Write>(out: &mut Output<W>) {
 }
 
 // The line of an opening of the sender.
-pub(crate) fn opened_sender<W: Write>(out: &mut Output<W>, opened: sender::Opened, rows: &[u8]) {
-    let a = opened.answer;
-    let x = opened.sender;
+pub(crate) fn opened_sender<W: Write>(
+    out: &mut Output<W>,
+    opened: Outcome<(), Sender>,
+    rows: &[u8],
+) {
     out.put(b"open-sender");
-    answer(out, a);
-    sender_state(out, x);
+    answer(out, opened.answer);
+    sender_state(out, opened.state);
     sum(out, rows);
     line_end(out);
 }
@@ -107,25 +109,26 @@ pub(crate) fn opened_sender<W: Write>(out: &mut Output<W>, opened: sender::Opene
 // The line of an opening of the receiver.
 pub(crate) fn opened_receiver<W: Write>(
     out: &mut Output<W>,
-    opened: receiver::Opened,
+    opened: Outcome<(), Receiver>,
     rows: &[u8],
 ) {
-    let a = opened.answer;
-    let x = opened.receiver;
     out.put(b"open-receiver");
-    answer(out, a);
-    receiver_state(out, x);
+    answer(out, opened.answer);
+    receiver_state(out, opened.state);
     sum(out, rows);
     line_end(out);
 }
 
 // The line of a send.
-pub(crate) fn sent<W: Write>(out: &mut Output<W>, sent: sender::Sent, frame: &[u8], rows: &[u8]) {
-    let a = sent.answer;
-    let x = sent.sender;
+pub(crate) fn sent<W: Write>(
+    out: &mut Output<W>,
+    sent: Outcome<(), Sender>,
+    frame: &[u8],
+    rows: &[u8],
+) {
     out.put(b"send");
-    answer(out, a);
-    sender_state(out, x);
+    answer(out, sent.answer);
+    sender_state(out, sent.state);
     sum(out, frame);
     sum(out, rows);
     line_end(out);
@@ -135,15 +138,13 @@ pub(crate) fn sent<W: Write>(out: &mut Output<W>, sent: sender::Sent, frame: &[u
 pub(crate) fn reported<W: Write>(
     out: &mut Output<W>,
     word: &[u8],
-    r: receiver::Reported,
+    r: Outcome<Told, Receiver>,
     buffer: &[u8],
     rows: &[u8],
 ) {
-    let a = r.reply;
-    let x = r.receiver;
     out.put(word);
-    reply(out, a);
-    receiver_state(out, x);
+    reply(out, r.answer);
+    receiver_state(out, r.state);
     sum(out, buffer);
     sum(out, rows);
     line_end(out);

@@ -20,7 +20,7 @@ row_fits s frame e = omega (arith, length-drop 14 frame)
 
 pub returns-in-Err : goal.returns-in-Err
 returns-in-Err c =
-    ap (λ r. record { reply = r.reply; receiver = r.receiver; rows = c.args.rows.now; message = c.args.message.now }) c.refused.ensures
+    ap (λ r. record { reply = r.answer; receiver = r.state; rows = c.args.rows.now; message = c.args.message.now }) c.refused.ensures
     ∙ sym (heard_stays c.args.x c.args.rows.now c.args.frame.now c.args.message.now _
     (sym c.frame_cause.ensures ∙ c.in-Err.is))
 

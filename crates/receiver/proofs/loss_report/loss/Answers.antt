@@ -12,7 +12,7 @@ use Rattle.receiver.proofs.loss_report.loss.Goals as goal
 
 pub returns-in-Err : goal.returns-in-Err
 returns-in-Err c =
-    ap (λ r. record { reply = r.reply; receiver = r.receiver; rows = c.args.rows.now; message = c.args.message.now }) c.refused.ensures
+    ap (λ r. record { reply = r.answer; receiver = r.state; rows = c.args.rows.now; message = c.args.message.now }) c.refused.ensures
     ∙ sym (loss_stays c.args.x c.args.rows.now c.args.message.now _
     (sym c.loss_cause.ensures ∙ c.in-Err.is))
 

@@ -1,6 +1,6 @@
 -- A cause that is found refuses the opening, and else the rows are those of the slots before it.
 use Rattle.std.specs.Prelude.{Ok}
-use mathlib.Core.Path.{◌≡◌, sym, ap₂, ◌∙◌}
+use mathlib.Core.Path.{◌≡◌, sym, ap, ap₂, ◌∙◌}
 use native.Mathlib.Omega.{arith}
 use Prim.Native.Nat.{ℕ}
 use Rattle.galois.specs.Table.{table}
@@ -14,7 +14,8 @@ use Rattle.receiver.proofs.opening.open.Goals as goal
 
 pub returns-in-Err : goal.returns-in-Err
 returns-in-Err c =
-    unopened c.args.s c.args.slot c.args.rows.now _ (sym c.open_receiver_cause.ensures ∙ c.in-Err.is)
+    ap (λ r. record { answer = r.answer; receiver = r.state; rows = c.args.rows.now }) c.refused.ensures
+    ∙ unopened c.args.s c.args.slot c.args.rows.now _ (sym c.open_receiver_cause.ensures ∙ c.in-Err.is)
 
 pub write_opened-requires : goal.write_opened-requires
 unfolding row_len

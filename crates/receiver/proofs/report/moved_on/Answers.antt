@@ -29,7 +29,7 @@ told_by_lem x rows next r message on told held =
 pub returns-then-x-delay : goal.returns-then-x-delay
 unfolding buffer_of
 returns-then-x-delay c =
-    told_by_lem c.args.x c.args.rows.now c.next_receiver-next.result (Ok NoneYet) _ c.next_receiver-next.ensures
+    told_by_lem c.args.x c.args.rows.now c.next_receiver-state.result (Ok NoneYet) _ c.next_receiver-state.ensures
     (rw (lt-ltb c.args.x.due (delay_of c.args.x.settings) (omega arith)))
     (c.clear.ensures ∙ ap (λ (n : ℕ). replicate n 0) c.requires.3)
 
@@ -37,10 +37,10 @@ pub returns : goal.returns
 unfolding message_due
 returns c =
     let says = told c.args.x.settings c.args.rows.now (c.args.x.due + 1) (c.args.x.due - _) c.args.message.now c.requires.0 c.requires.2 c.requires.3
-    c.decide-reply.result _ c.decide-reply.ensures in
-    told_by_lem c.args.x c.args.rows.now c.next_receiver-next.result c.decide-reply.result _ c.next_receiver-next.ensures
+    c.decide.result _ c.decide.ensures in
+    told_by_lem c.args.x c.args.rows.now c.next_receiver-state.result c.decide.result _ c.next_receiver-state.ensures
     (rw (le-ltb c.args.x.due (delay_of c.args.x.settings) (omega arith)) (says.0 ∙ ap (λ (d : ℕ). verdict c.args.x.settings c.args.rows.now (c.args.x.due + 1) (c.args.x.due - d)) c.effective_delay-delay.ensures))
-    (says.1 ∙ ap (λ (d : ℕ). buffer_of c.args.x.settings c.args.rows.now (c.args.x.due + 1) (c.args.x.due - d) c.decide-reply.result) c.effective_delay-delay.ensures)
+    (says.1 ∙ ap (λ (d : ℕ). buffer_of c.args.x.settings c.args.rows.now (c.args.x.due + 1) (c.args.x.due - d) c.decide.result) c.effective_delay-delay.ensures)
 
 pub overflow_add-x : goal.overflow_add-x
 unfolding last_slot

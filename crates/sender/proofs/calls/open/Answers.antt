@@ -12,7 +12,8 @@ use Rattle.sender.proofs.calls.open.Goals as goal
 pub returns-in-Err : goal.returns-in-Err
 returns-in-Err c =
     let looked : c.open_cause.result ≡ open_cause c.args.s (sender_len c.args.s) c.args.rows.now = c.open_cause.ensures ∙ ap (λ (n : ℕ). open_cause c.args.s n c.args.rows.now) c.sender_len.ensures in
-    unopened c.args.s c.args.rows.now _ (sym looked ∙ c.in-Err.is)
+    ap (λ r. record { answer = r.answer; sender = r.state; rows = c.args.rows.now }) c.refused.ensures
+    ∙ unopened c.args.s c.args.rows.now _ (sym looked ∙ c.in-Err.is)
 
 pub returns : goal.returns
 returns c =

@@ -14,7 +14,7 @@ sending x rows frame = record { answer = Ok tt; sender = x; rows = rows; frame =
 
 pub returns-in-Err : goal.returns-in-Err
 returns-in-Err c =
-    ap (λ r. record { answer = r.answer; sender = r.sender; rows = c.args.rows.now; frame = c.args.frame.now }) c.refused.ensures
+    ap (λ r. record { answer = r.answer; sender = r.state; rows = c.args.rows.now; frame = c.args.frame.now }) c.refused.ensures
     ∙ unsent c.args.x c.args.rows.now c.args.message.now c.args.frame.now _ (sym c.send_cause.ensures ∙ c.in-Err.is)
 
 pub write_frame-requires : goal.write_frame-requires
