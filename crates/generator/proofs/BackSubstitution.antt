@@ -133,7 +133,8 @@ module _ (s : Settings) (h : Shape s) (i : ℕ) (hi : i < k_of s) where
       ∙ plus_zero (sum m term)
 
 -- G's row i with the rows after it cancelled is row i of the systematic form
-pub row_done : (s : Settings) → Shape s → (i : ℕ) → i < k_of s → (g rows : List (List ℕ)) (end : ℕ) → g ≡ generator_of s → end ≡ band_end s i
+pub row_done : (s : Settings) → Shape s → (i : ℕ) → i < k_of s → (g rows : List (List ℕ)) (end : ℕ)
+    → g ≡ generator_of s → end ≡ band_end s i
     → ((r : ℕ) → i + 1 ≤ r → r < 16 → get_or rows r [] ≡ table 16 (symbol s (unit r)))
     → (row : List ℕ)
     → row ≡ table 16 (λ p. get_or (get_or g i []) p 0
@@ -143,7 +144,8 @@ row_done s h i hi g rows end same ends done row cancelled =
     let few = (band_end_lem s i).0 in
     cancelled
     ∙ table_equal 16
-    (λ p. get_or (get_or g i []) p 0 ⊕ sum (end - (i + 1)) (λ e. get_or (get_or g i []) (i + 1 + e) 0 ⊗ get_or (get_or rows (i + 1 + e) []) p 0))
+    (λ p. get_or (get_or g i []) p 0
+    ⊕ sum (end - (i + 1)) (λ e. get_or (get_or g i []) (i + 1 + e) 0 ⊗ get_or (get_or rows (i + 1 + e) []) p 0))
     (symbol s (unit i))
     (λ p hp.
     ap₂ ◌⊕◌ (generator_entry s g same i p (omega arith) hp)

@@ -12,7 +12,7 @@ use spread::spread_row;
 use std::array;
 
 // The entry of G at a row and a position, from the spread form's: α at position T + i of a row i below d; 0 past the last position.
-#[tactic(auto, unfolding(code::specs::Matrix::entry, code::specs::Matrix::alpha_entry, galois::specs::Byte::alpha, code::specs::Settings::k_of, code::specs::Settings::delay_of))]
+#[tactic(auto, unfolding(code::specs::Matrix::entry, code::specs::Matrix::alpha_entry, galois::specs::Byte::alpha))]
 fn entry(s: Settings, row: usize, position: usize, number: Gf16) -> u8
     requires { (row < k_of s) × (number.0 ≡ spread s row position) }
     ensures { result ≡ entry s row position }

@@ -15,8 +15,9 @@ use sources::gather;
 use vectors::weighted;
 
 // Writes the B parity symbols of the frame of the slot due, each in all lanes: the sum of the k source symbols, each by its entry of the
-// systematic form. The rows, the settings and the slot due are no struct: of a slice in one the check does not know that it holds bytes, and
-// the sum needs that.
+// systematic form.
+// The rows, the settings and the slot due are no struct: of a slice in a struct the proof does not learn that it holds bytes, and the sum is
+// one of bytes.
 #[tactic(auto, using(code::proofs::Shape::shape))]
 pub fn write_parities(out: &mut [u8], rows: &[u8], s: Settings, due: u32)
     requires { T (accepted s) × (length rows.now ≡ sender_len s) × (length out.old ≡ s.burst * s.lanes) }

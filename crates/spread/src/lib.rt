@@ -10,6 +10,7 @@ use gf16::Gf16;
 use std::array;
 
 // The m-th zero point of a row.
+#[tactic(auto, unfolding(code::specs::Matrix::point))]
 fn zero_point(scattered: u8, row: u8, m: u8) -> u16
     ensures { result ≡ point scattered row m }
 {
@@ -21,6 +22,7 @@ fn zero_point(scattered: u8, row: u8, m: u8) -> u16
 }
 
 // A position plus a point, in narrow numbers: 0 where either is above 15.
+#[tactic(auto, using(galois::proofs::NarrowField::plus_above))]
 fn shifted(position: u8, point: u16) -> Gf16
     ensures { result.0 ≡ position ⊞ point }
 {

@@ -32,27 +32,23 @@ reached_more row done i m p h =
 
 pub loop-m-init : goal.loop-m-init
 loop-m-init c =
-    let sixteen : length c.args.row ≡ 16 = search rules in (
-      omega arith,
-      omega arith,
-      is_table 16 (reached c.args.row c.args.done.now c.args.i (c.args.i + 1)) 0 c.args.row sixteen
-          (λ p h. reached_none c.args.row c.args.done.now c.args.i p),
-    )
+    let sixteen : length c.args.row ≡ 16 = search rules in
+    is_table 16 (reached c.args.row c.args.done.now c.args.i (c.args.i + 1)) 0 c.args.row sixteen
+    (λ p h. reached_none c.args.row c.args.done.now c.args.i p)
 
 pub loop-m-preserved : goal.loop-m-preserved
 loop-m-preserved c =
-    let f : ℕ → ℕ → ℕ = reached c.args.row c.args.done.now c.args.i in (
-      omega arith,
-      omega arith,
-      c.plus_multiple-sum.ensures
-          ∙ table_equal 16 (λ p. get_or c.loop-m.out p 0 ⊕ get_or c.args.row c.loop-m.m 0 ⊗ get_or (get_or c.args.done.now c.loop-m.m []) p 0) (f (c.loop-m.m + 1))
-          (λ p h.
-          ap (λ (x : ℕ). x ⊕ get_or c.args.row c.loop-m.m 0 ⊗ get_or (get_or c.args.done.now c.loop-m.m []) p 0)
-          (ap (λ (l : List ℕ). get_or l p 0) c.loop-m.invariant.2 ∙ get_or-table 16 (f c.loop-m.m) p 0 h)
-          ∙ reached_more c.args.row c.args.done.now c.args.i c.loop-m.m p c.loop-m.invariant.0),
-    )
+    let m : ℕ = c.loop-m.m in
+    let done : List (List ℕ) = c.args.done.now in
+    let f : ℕ → ℕ → ℕ = reached c.args.row done c.args.i in
+    let more : ℕ → ℕ = λ p. get_or c.args.row m 0 ⊗ get_or (get_or done m []) p 0 in
+    c.plus_multiple-sum.ensures
+    ∙ table_equal 16 (λ p. get_or c.loop-m.out p 0 ⊕ more p) (f (m + 1))
+    (λ p h.
+    ap (λ (x : ℕ). x ⊕ more p) (ap (λ (l : List ℕ). get_or l p 0) c.loop-m.invariant ∙ get_or-table 16 (f m) p 0 h)
+    ∙ reached_more c.args.row done c.args.i m p (omega arith))
 
 pub returns : goal.returns
 returns c =
     let all : c.loop-m.m ≡ c.args.end = omega arith in
-    c.loop-m.invariant.2 ∙ ap (λ (m : ℕ). table 16 (reached c.args.row c.args.done.now c.args.i m)) all
+    c.loop-m.invariant ∙ ap (λ (m : ℕ). table 16 (reached c.args.row c.args.done.now c.args.i m)) all

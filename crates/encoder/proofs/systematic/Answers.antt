@@ -1,5 +1,5 @@
 -- The rows are done from the last source symbol down: at i, rows i and up are the systematic form's.
-use mathlib.Core.List.{[]}
+use mathlib.Core.List.{[], List}
 use mathlib.Core.Path.{◌≡◌, refl, sym, ◌∙◌, subst⁻¹}
 use mathlib.Core.Logic.{⊎_elim}
 use lib.Dec.{T}
@@ -23,10 +23,8 @@ returns-then-not-accepted c =
 pub loop-i-init : goal.loop-i-init
 unfolding table
 loop-i-init c =
-    let shaped = shape c.args.s (subst⁻¹ T (sym c.accepted.ensures
-    ∙ c.if-not-accepted.false) tt) in (
+    let shaped = shape c.args.s (subst⁻¹ T (sym c.accepted.ensures ∙ c.if-not-accepted.false) tt) in (
       shaped,
-      omega arith,
       refl,
       λ r h below.
           get_or-table 16 (λ i. table 16 (λ p. 0)) r [] below
@@ -35,27 +33,26 @@ loop-i-init c =
 
 pub cancelled-requires : goal.cancelled-requires
 cancelled-requires c =
-    let j : ℕ = c.loop-i.i - 1 in
-    let ends = band_end_lem c.args.s j in
+    let ends = band_end_lem c.args.s (c.loop-i.i - 1) in
     (⊎_elim (λ k. omega arith) (λ k. omega arith) ends.2, omega arith)
 
 pub loop-i-preserved : goal.loop-i-preserved
 loop-i-preserved c =
     let j : ℕ = c.loop-i.i - 1 in
-    let rows_after : (r : ℕ) → j + 1 ≤ r → r < 16 → get_or c.loop-i.rows r [] ≡ table 16 (symbol c.args.s (unit r)) =
-    λ r h below. c.loop-i.invariant.3 r (omega arith) below in
-    let done : c.cancelled.result ≡ table 16 (symbol c.args.s (unit j)) =
+    let f : ℕ → List ℕ = λ r. table 16 (symbol c.args.s (unit r)) in
+    let rows_after : (r : ℕ) → j + 1 ≤ r → r < 16 → get_or c.loop-i.rows r [] ≡ f r =
+    λ r h below. c.loop-i.invariant.2 r (omega arith) below in
+    let done : c.cancelled.result ≡ f j =
     row_done c.args.s c.loop-i.invariant.0 j (omega arith) c.generator-g.result c.loop-i.rows c.band_end.result
     c.generator-g.ensures c.band_end.ensures rows_after
     c.cancelled.result c.cancelled.ensures in (
       c.loop-i.invariant.0,
-      omega arith,
-      simp length-set c.loop-i.invariant.2,
-      filled_before 16 (λ r. table 16 (symbol c.args.s (unit r))) [] c.loop-i.rows j c.cancelled.result (omega arith) done rows_after,
+      simp length-set c.loop-i.invariant.1,
+      filled_before 16 f [] c.loop-i.rows j c.cancelled.result (omega arith) done rows_after,
     )
 
 pub returns : goal.returns
 returns c =
-    is_table 16 (λ i. table 16 (λ p. symbol c.args.s (unit i) p)) [] c.loop-i.rows c.loop-i.invariant.2 (λ i h. c.loop-i.invariant.3 i (omega arith) h)
-    ∙ systematic_accepted c.args.s (sym c.accepted.ensures
-    ∙ c.if-not-accepted.false)
+    is_table 16 (λ i. table 16 (λ p. symbol c.args.s (unit i) p)) [] c.loop-i.rows c.loop-i.invariant.1
+    (λ i h. c.loop-i.invariant.2 i (omega arith) h)
+    ∙ systematic_accepted c.args.s (sym c.accepted.ensures ∙ c.if-not-accepted.false)

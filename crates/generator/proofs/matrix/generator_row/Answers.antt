@@ -36,7 +36,8 @@ overflow_cast-sources c = omega arith
 pub from_fn-requires : goal.from_fn-requires
 from_fn-requires c =
     let at = λ (j : ℕ) (h : j < 16).
-    spread_at c.args.s c.args.row c.sources-sources.result j c.spread_row-products.result c.sources-sources.ensures c.spread_row-products.ensures h in
+    spread_at c.args.s c.args.row c.sources-sources.result j c.spread_row-products.result
+    c.sources-sources.ensures c.spread_row-products.ensures h in
     search (rules, serving, at)
 
 pub returns : goal.returns
