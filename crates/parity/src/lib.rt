@@ -16,7 +16,7 @@ use vectors::weighted;
 
 // Writes the B parity symbols of the frame of the slot due, each in all lanes: the sum of the k source symbols, each by its entry of the
 // systematic form.
-// The rows, the settings and the slot due are no struct: of a slice in a struct the proof does not learn that it holds bytes, and the sum is
+// The rows, the settings and the slot due are no struct: a proof does not learn of a slice in a struct that it holds bytes, and the sum is
 // one of bytes.
 #[tactic(auto, using(code::proofs::Shape::shape))]
 pub fn write_parities(out: &mut [u8], rows: &[u8], s: Settings, due: u32)
