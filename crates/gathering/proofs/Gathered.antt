@@ -18,8 +18,8 @@ module _ (bytes : List ℕ) (lanes : ℕ) (source : ℕ → Source) (pairs : Lis
   gathered m = gathered_of bytes lanes source m pairs
 
   -- one more pair
-  pub gathered_more : (j : ℕ) (before : List (List ℕ)) (first second : Source) → before ≡ gathered j → first ≡ source (j * 2) → second ≡ source (j * 2 + 1)
-      → paired_up before j bytes lanes first second ≡ gathered (j + 1)
+  pub gathered_more : (j : ℕ) (before : List (List ℕ)) (first second : Source) → before ≡ gathered j → first ≡ source (j * 2)
+      → second ≡ source (j * 2 + 1) → paired_up before j bytes lanes first second ≡ gathered (j + 1)
   unfolding gathered_of
   gathered_more j before first second is-before is-first is-second = rw add-one cc
 
@@ -47,7 +47,8 @@ module _ (bytes : List ℕ) (lanes : ℕ) (source : ℕ → Source) (pairs : Lis
         ⊎_elim (λ later. ⊎_elim at_second (at_first later) (le_or_lt (m * 2 + 1) i))
         (λ less.
         ap (λ (l : List ℕ). get_or l v 0)
-        (paired_other (gathered m) m bytes lanes (source (m * 2)) (source (m * 2 + 1)) before few fits i (omega arith) (λ same. omega arith))
+        (paired_other (gathered m) m bytes lanes (source (m * 2)) (source (m * 2 + 1)) before few fits i (omega arith)
+        (λ same. omega arith))
         ∙ gathered_vector m i v (omega arith) less lane)
         (le_or_lt (m * 2) i)
       where
@@ -55,7 +56,9 @@ module _ (bytes : List ℕ) (lanes : ℕ) (source : ℕ → Source) (pairs : Lis
         before = gathered_wide m (omega arith)
 
         Put : ℕ → Type 0
-        Put i = get_or (vector_of (paired_up (gathered m) m bytes lanes (source (m * 2)) (source (m * 2 + 1))) i) v 0 ≡ byte_of bytes (source i) v
+        Put i =
+            get_or (vector_of (paired_up (gathered m) m bytes lanes (source (m * 2)) (source (m * 2 + 1))) i) v 0
+            ≡ byte_of bytes (source i) v
 
         at_second : m * 2 + 1 ≤ i → Put i
         at_second above =

@@ -165,8 +165,8 @@ module _ (pairs : List (List ℕ)) (e m x y z : ℕ) where
       ∙ get_or-set_other pairs (e + 1) (e + 17) next_first [] (λ same. omega arith))
 
   -- one more lane of each of the three
-  pub put_more : (was : List (List ℕ)) (f g h : ℕ → ℕ) → e + 17 < length was → m < 64 → x ≡ f m → y ≡ g m → z ≡ h m → Put was e m f g h pairs
-      → Put was e (m + 1) f g h (put_lane (put_lane (put_lane pairs (e + 1) m x) (e + 16) m y) (e + 17) m z)
+  pub put_more : (was : List (List ℕ)) (f g h : ℕ → ℕ) → e + 17 < length was → m < 64 → x ≡ f m → y ≡ g m → z ≡ h m
+      → Put was e m f g h pairs → Put was e (m + 1) f g h (put_lane (put_lane (put_lane pairs (e + 1) m x) (e + 16) m y) (e + 17) m z)
   put_more was f g h few lane ex ey ez s =
       let inside : e + 17 < length pairs = omega (arith, s.entries) in
       record {

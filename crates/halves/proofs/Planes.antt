@@ -157,7 +157,8 @@ module _ (count : ℕ) (pairs : List (List ℕ)) (paired : Paired count pairs) (
       let small = subst (λ (k : ℕ). lane pairs k v < 256) at below in
       ap (λ (k : ℕ). lane pairs k v) at
       ∙ sym
-      (ap₂ ◌⊕◌ (zero_times (lane pairs (j * 2 + 1) v)) (one_times (lane pairs (j * 2 + 16) v) small) ∙ zero_plus (lane pairs (j * 2 + 16) v))
+      (ap₂ ◌⊕◌ (zero_times (lane pairs (j * 2 + 1) v)) (one_times (lane pairs (j * 2 + 16) v) small)
+      ∙ zero_plus (lane pairs (j * 2 + 16) v))
   picked (suc zero) (suc zero) hd he below =
       let at : 2 * j + (1 + 1 * 16) ≡ j * 2 + 17 = omega arith in
       let both = ap (λ (k : ℕ). lane pairs k v) at ∙ paired.sums j v hj hv in

@@ -124,7 +124,8 @@ module _ (row : List ℕ) (j m : ℕ) (out : List (List ℕ)) (hj : j < 16) (hm 
             (λ same. subst⁻¹ (λ (n : ℕ). get_or (get_or out n []) j 0 ≡ weight n ⊗ get_or row j 0) same
             (ap (λ (n : ℕ). get_or (get_or out n []) j 0) (omega arith)
             ∙ f.zeros (m / 4) j (omega arith)
-            ∙ sym (ap (λ (w : ℕ). w ⊗ get_or row j 0) (ap (λ (d : ℕ). d * 4 ^ (m / 4)) h ∙ zero-mul (4 ^ (m / 4))) ∙ zero_times (get_or row j 0))))
+            ∙ sym (ap (λ (w : ℕ). w ⊗ get_or row j 0) (ap (λ (d : ℕ). d * 4 ^ (m / 4)) h ∙ zero-mul (4 ^ (m / 4)))
+            ∙ zero_times (get_or row j 0))))
             (λ below. f.column k below)
             (eq-or-lt_of_le (le_of_suc-le-suc hk));
         zeros = f.zeros;

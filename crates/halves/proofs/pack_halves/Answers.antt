@@ -23,7 +23,8 @@ loop-j-preserved g c =
 
 pub returns : goal.returns
 returns g c =
+    let whole : ℕ → ℕ = λ i. get_or (get_or c.args.rows.now i []) c.args.q 0 / g.row.UNIT in
     record {
-      halves = packed c.loop-j.out (λ i. get_or (get_or c.args.rows.now i []) c.args.q 0 / g.row.UNIT) c.args.count (λ k h. c.loop-j.invariant.1 k (omega arith));
+      halves = packed c.loop-j.out whole c.args.count (λ k h. c.loop-j.invariant.1 k (omega arith));
       rest = λ k h. c.loop-j.invariant.2 k (omega arith);
     }

@@ -7,6 +7,6 @@ use Rattle.halves.proofs.pack_halves.Given as goal
 
 abbrev pub invariant-loop-j : goal.invariant-loop-j
 invariant-loop-j g l =
-    (length l.out ≡ 8)
-    × ((k : ℕ) → k < l.j → get_or l.out k 0 ≡ get_or (get_or l.rows (2 * k) []) l.q 0 / g.row.UNIT % 16 + get_or (get_or l.rows (2 * k + 1) []) l.q 0 / g.row.UNIT % 16 * 16)
+    let half : ℕ → ℕ = λ i. get_or (get_or l.rows i []) l.q 0 / g.row.UNIT % 16 in
+    (length l.out ≡ 8) × ((k : ℕ) → k < l.j → get_or l.out k 0 ≡ half (2 * k) + half (2 * k + 1) * 16)
     × ((k : ℕ) → l.j ≤ k → get_or l.out k 0 ≡ 0)

@@ -38,4 +38,6 @@ returns c =
     ∙ ap₂ (λ (l h : ℕ). l ⊕ alpha ⊗ h)
     (lane_of c.by_nibble-low.result (λ v. sum (c.args.count * 2) (λ i. lows i ⊗ byte v i)) c.by_nibble-low.ensures v h)
     (lane_of c.by_upper-high.result (λ v. sum (c.args.count * 2) (λ i. highs i ⊗ byte v i)) c.by_upper-high.ensures v h)
-    ∙ by_both_halves (c.args.count * 2) lows highs coefficient (byte v) (λ i h. c.pack_halves-lower.ensures.halves i h ∙ ap (λ (x : ℕ). x % 16) (div-one (coefficient i))) c.pack_halves-upper.ensures.halves)
+    ∙ by_both_halves (c.args.count * 2) lows highs coefficient (byte v)
+    (λ i h. c.pack_halves-lower.ensures.halves i h ∙ ap (λ (x : ℕ). x % 16) (div-one (coefficient i)))
+    c.pack_halves-upper.ensures.halves)
