@@ -1,33 +1,24 @@
--- A narrow number from its four bits; so the product with it.
+-- A narrow number from its bits, the highest first: each step doubles what the bits above make, and adds the next bit.
 use mathlib.Core.Path.{◌≡◌, sym, ap, ◌∙◌}
-use Prim.Native.Nat.{ℕ, ◌/◌, ◌%◌, ◌<◌}
+use native.Mathlib.Omega.{arith}
+use Prim.Native.Nat.{ℕ, zero, suc, ◌+◌, ◌/◌, ◌%◌, ◌^◌, ◌<◌}
 use Rattle.galois.specs.Byte.{◌⊕◌, ◌⊗◌}
 use Rattle.galois.proofs.Arithmetic.{arithmetic}
 use Rattle.galois.proofs.ByteProduct.{distributes_left, times_assoc}
 use Rattle.galois.proofs.Cases.{equal}
 
--- what four bits make, the highest first: each step doubles and adds the next
-unfoldable pub from_bits : ℕ → ℕ → ℕ → ℕ → ℕ
-from_bits x₃ x₂ x₁ x₀ = 2 ⊗ (2 ⊗ (2 ⊗ x₃ ⊕ x₂) ⊕ x₁) ⊕ x₀
+-- one step
+next_bit : (a t : ℕ) → a < 16 → t < 4 → 2 ⊗ (a / 2 ^ (t + 1)) ⊕ a / 2 ^ t % 2 ≡ a / 2 ^ t
+unfolding arithmetic
+next_bit a zero ha ht = equal 16 (λ a. 2 ⊗ (a / 2 ^ 1) ⊕ a / 2 ^ 0 % 2) (λ a. a / 2 ^ 0) tt a ha
+next_bit a (suc zero) ha ht = equal 16 (λ a. 2 ⊗ (a / 2 ^ 2) ⊕ a / 2 ^ 1 % 2) (λ a. a / 2 ^ 1) tt a ha
+next_bit a (suc (suc zero)) ha ht = equal 16 (λ a. 2 ⊗ (a / 2 ^ 3) ⊕ a / 2 ^ 2 % 2) (λ a. a / 2 ^ 2) tt a ha
+next_bit a (suc (suc (suc zero))) ha ht = equal 16 (λ a. 2 ⊗ (a / 2 ^ 4) ⊕ a / 2 ^ 3 % 2) (λ a. a / 2 ^ 3) tt a ha
+next_bit a (suc (suc (suc (suc t)))) ha ht = absurd (omega arith)
 
--- a narrow number is made of its bits
-four_bits : (a : ℕ) → a < 16 → from_bits (a / 8 % 2) (a / 4 % 2) (a / 2 % 2) (a % 2) ≡ a
-unfolding from_bits arithmetic
-four_bits = equal 16 (λ a. from_bits (a / 8 % 2) (a / 4 % 2) (a / 2 % 2) (a % 2)) (λ a. a) tt
-
--- one step, each bit by y, then all steps
-doubled_plus : (x x' y : ℕ) → (2 ⊗ x ⊕ x') ⊗ y ≡ 2 ⊗ (x ⊗ y) ⊕ x' ⊗ y
-doubled_plus x x' y = distributes_left y (2 ⊗ x) x' ∙ ap (λ (z : ℕ). z ⊕ x' ⊗ y) (times_assoc 2 x y)
-
-from_bits_times : (x₃ x₂ x₁ x₀ y : ℕ) → from_bits (x₃ ⊗ y) (x₂ ⊗ y) (x₁ ⊗ y) (x₀ ⊗ y) ≡ from_bits x₃ x₂ x₁ x₀ ⊗ y
-unfolding from_bits
-from_bits_times x₃ x₂ x₁ x₀ y =
-    sym
-    (doubled_plus (2 ⊗ (2 ⊗ x₃ ⊕ x₂) ⊕ x₁) x₀ y
-    ∙ ap (λ (z : ℕ). 2 ⊗ z ⊕ x₀ ⊗ y)
-    (doubled_plus (2 ⊗ x₃ ⊕ x₂) x₁ y ∙ ap (λ (z : ℕ). 2 ⊗ z ⊕ x₁ ⊗ y) (doubled_plus x₃ x₂ y)))
-
--- so y by a narrow number is made of y by its bits
-pub narrow_times : (a y : ℕ) → a < 16 → from_bits ((a / 8 % 2) ⊗ y) ((a / 4 % 2) ⊗ y) ((a / 2 % 2) ⊗ y) ((a % 2) ⊗ y) ≡ a ⊗ y
-narrow_times a y h =
-    from_bits_times (a / 8 % 2) (a / 4 % 2) (a / 2 % 2) (a % 2) y ∙ ap (λ (k : ℕ). k ⊗ y) (four_bits a h)
+-- and so y by the number from y by its bits
+pub next_bit_times : (a t y : ℕ) → a < 16 → t < 4 → 2 ⊗ ((a / 2 ^ (t + 1)) ⊗ y) ⊕ (a / 2 ^ t % 2) ⊗ y ≡ (a / 2 ^ t) ⊗ y
+next_bit_times a t y ha ht =
+    ap (λ (z : ℕ). z ⊕ (a / 2 ^ t % 2) ⊗ y) (sym (times_assoc 2 (a / 2 ^ (t + 1)) y))
+    ∙ sym (distributes_left y (2 ⊗ (a / 2 ^ (t + 1))) (a / 2 ^ t % 2))
+    ∙ ap (λ (k : ℕ). k ⊗ y) (next_bit a t ha ht)

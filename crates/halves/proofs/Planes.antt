@@ -16,11 +16,11 @@ use Rattle.galois.proofs.ByIndex.{get_or-table, table_equal}
 use Rattle.galois.proofs.ByteProduct.{distributes, zero_times, one_times}
 use Rattle.galois.proofs.Cases.{equal, le_or_lt}
 use Rattle.galois.proofs.Extension.{weights_parts}
-use Rattle.galois.proofs.Sums.{sum-equal, sum_plus, multiple_of_sum, weights_equal}
+use Rattle.galois.proofs.Sums.{sum-equal, sum_plus, multiple_of_sum, weights_equal, weights_zeros}
 use Rattle.galois.proofs.Xor.{plus_assoc, plus_self, plus_zero, zero_plus}
 use Rattle.gathering.specs.Pairs.{vector_of, Paired}
 use Rattle.halves.specs.Halves.{half_of, halves_sum, Under, bits_of}
-use Rattle.halves.proofs.Halves.{from_bits, narrow_times}
+use Rattle.halves.proofs.Halves.{next_bit_times}
 
 -- lane v of entry e
 abbrev pub lane : List (List ℕ) → ℕ → ℕ → ℕ
@@ -188,63 +188,42 @@ module _ (count : ℕ) (pairs : List (List ℕ)) (paired : Paired count pairs) (
       ∙ sym (plus_assoc (sum (j * 2) term) (term (j * 2)) (term (suc (j * 2))))
       ∙ ap (λ (m : ℕ). sum m term) more
 
--- ---- what is true of the bits of a number is true of the sums
-
--- one step, with a sum in the place of each bit, then all steps
-doubled_sum : (m : ℕ) (f g : ℕ → ℕ) → 2 ⊗ sum m f ⊕ sum m g ≡ sum m (λ i. 2 ⊗ f i ⊕ g i)
-doubled_sum m f g = ap (λ (s : ℕ). s ⊕ sum m g) (multiple_of_sum 2 m f) ∙ sym (sum_plus m (λ i. 2 ⊗ f i) g)
-
-from_bits_sum : (m : ℕ) (f₃ f₂ f₁ f₀ : ℕ → ℕ)
-    → from_bits (sum m f₃) (sum m f₂) (sum m f₁) (sum m f₀) ≡ sum m (λ i. from_bits (f₃ i) (f₂ i) (f₁ i) (f₀ i))
-unfolding from_bits
-from_bits_sum m f₃ f₂ f₁ f₀ =
-    ap (λ (s : ℕ). 2 ⊗ (2 ⊗ s ⊕ sum m f₁) ⊕ sum m f₀) (doubled_sum m f₃ f₂)
-    ∙ ap (λ (s : ℕ). 2 ⊗ s ⊕ sum m f₀) (doubled_sum m (λ i. 2 ⊗ f₃ i ⊕ f₂ i) f₁)
-    ∙ doubled_sum m (λ i. 2 ⊗ (2 ⊗ f₃ i ⊕ f₂ i) ⊕ f₁ i) f₀
+-- ---- the sum by halves from the sums by their bits, the highest first
 
 -- bit 0 of a number
 bit_zero : (x : ℕ) → x / 2 ^ 0 % 2 ≡ x % 2
 bit_zero x = ap (λ (y : ℕ). y % 2) (div-one x)
 
--- the sums by the four bits of halves, the highest first, each doubled before the next, are the sum by the halves
-pub by_four_bits : (m : ℕ) (halves : List ℕ) (y : ℕ → ℕ)
-    → 2 ⊗ (2 ⊗ (2 ⊗ (0 ⊕ sum m (λ i. (half_of halves i / 2 ^ 3 % 2) ⊗ y i)) ⊕ sum m (λ i. (half_of halves i / 2 ^ 2 % 2) ⊗ y i))
-    ⊕ sum m (λ i. (half_of halves i / 2 ^ 1 % 2) ⊗ y i)) ⊕ sum m (λ i. (half_of halves i / 2 ^ 0 % 2) ⊗ y i)
-    ≡ sum m (λ i. half_of halves i ⊗ y i)
-unfolding from_bits
-by_four_bits m halves y =
-    let f : ℕ → ℕ → ℕ = λ t i. (half_of halves i / 2 ^ t % 2) ⊗ y i in
-    ap (λ (s : ℕ). 2 ⊗ (2 ⊗ (2 ⊗ s ⊕ sum m (f 2)) ⊕ sum m (f 1)) ⊕ sum m (f 0)) (zero_plus (sum m (f 3)))
-    ∙ from_bits_sum m (f 3) (f 2) (f 1) (f 0)
-    ∙ sum-equal m (λ i. from_bits (f 3 i) (f 2 i) (f 1 i) (f 0 i)) (λ i. half_of halves i ⊗ y i)
-    (λ i h.
-    ap (λ (b : ℕ). from_bits (f 3 i) (f 2 i) (f 1 i) (b ⊗ y i)) (bit_zero (half_of halves i))
-    ∙ narrow_times (half_of halves i) (y i) (half_below halves i))
+-- the sum by the halves without their lowest t bits
+abbrev pub upper_sum : List ℕ → List (List ℕ) → ℕ → ℕ → ℕ → ℕ
+upper_sum halves pairs count t v = sum (count * 2) (λ i. (half_of halves i / 2 ^ t) ⊗ get_or (vector_of pairs i) v 0)
+
+module _ (halves : List ℕ) (pairs : List (List ℕ)) (count v : ℕ) where
+  -- without four bits nothing is left
+  pub none_upper : upper_sum halves pairs count 4 v ≡ 0
+  none_upper =
+      weights_zeros (count * 2) (λ i. get_or (vector_of pairs i) v 0) (λ i. half_of halves i / 2 ^ 4) (λ i h. omega (arith, half_below halves i))
+
+  -- one bit more: what the bits above make is doubled, and the sum by the bit is added
+  pub next_upper : (t : ℕ) → t < 4
+      → 2 ⊗ upper_sum halves pairs count (t + 1) v ⊕ sum (count * 2) (term_at halves t pairs v) ≡ upper_sum halves pairs count t v
+  next_upper t h =
+      let above : ℕ → ℕ = λ i. (half_of halves i / 2 ^ (t + 1)) ⊗ get_or (vector_of pairs i) v 0 in
+      let term = term_at halves t pairs v in
+      ap (λ (s : ℕ). s ⊕ sum (count * 2) term) (multiple_of_sum 2 (count * 2) above)
+      ∙ sym (sum_plus (count * 2) (λ i. 2 ⊗ above i) term)
+      ∙ sum-equal (count * 2) (λ i. 2 ⊗ above i ⊕ term i) (λ i. (half_of halves i / 2 ^ t) ⊗ get_or (vector_of pairs i) v 0)
+      (λ i _. next_bit_times (half_of halves i) t (get_or (vector_of pairs i) v 0) (half_below halves i) h)
+
+  -- with all bits it is the sum by the halves
+  pub all_upper : upper_sum halves pairs count 0 v ≡ sum (count * 2) (λ i. half_of halves i ⊗ get_or (vector_of pairs i) v 0)
+  all_upper =
+      weights_equal (count * 2) (λ i. get_or (vector_of pairs i) v 0) (λ i. half_of halves i / 2 ^ 0) (half_of halves)
+      (λ i _. div-one (half_of halves i))
 
 -- what stands in lane v of a list that is a table of lanes
 pub lane_of : (l : List ℕ) (f : ℕ → ℕ) → l ≡ table 64 f → (v : ℕ) → v < 64 → get_or l v 0 ≡ f v
 lane_of l f e v h = ap (λ (l : List ℕ). get_or l v 0) e ∙ get_or-table 64 f v 0 h
-
--- four planes added to zeros, the highest first, with a doubling before each but the first
-pub four_planes : (p₃ p₂ p₁ p₀ : ℕ → ℕ) (l₃ d₃ l₂ d₂ l₁ d₁ l₀ : List ℕ)
-    → l₃ ≡ table 64 (λ v. get_or (replicate 64 0) v 0 ⊕ p₃ v) → d₃ ≡ table 64 (λ v. 2 ⊗ get_or l₃ v 0)
-    → l₂ ≡ table 64 (λ v. get_or d₃ v 0 ⊕ p₂ v) → d₂ ≡ table 64 (λ v. 2 ⊗ get_or l₂ v 0)
-    → l₁ ≡ table 64 (λ v. get_or d₂ v 0 ⊕ p₁ v) → d₁ ≡ table 64 (λ v. 2 ⊗ get_or l₁ v 0)
-    → l₀ ≡ table 64 (λ v. get_or d₁ v 0 ⊕ p₀ v)
-    → l₀ ≡ table 64 (λ v. 2 ⊗ (2 ⊗ (2 ⊗ (0 ⊕ p₃ v) ⊕ p₂ v) ⊕ p₁ v) ⊕ p₀ v)
-four_planes p₃ p₂ p₁ p₀ l₃ d₃ l₂ d₂ l₁ d₁ l₀ f₃ e₃ f₂ e₂ f₁ e₁ f₀ =
-    f₀
-    ∙ table_equal 64 (λ v. get_or d₁ v 0 ⊕ p₀ v) (λ v. 2 ⊗ (2 ⊗ (2 ⊗ (0 ⊕ p₃ v) ⊕ p₂ v) ⊕ p₁ v) ⊕ p₀ v)
-    (λ v h.
-    let first : get_or l₃ v 0 ≡ 0 ⊕ p₃ v =
-    lane_of l₃ (λ v. get_or (replicate 64 0) v 0 ⊕ p₃ v) f₃ v h ∙ ap (λ (x : ℕ). x ⊕ p₃ v) (get_or-replicate 64 v 0 0 h) in
-    let second : get_or l₂ v 0 ≡ 2 ⊗ (0 ⊕ p₃ v) ⊕ p₂ v =
-    lane_of l₂ (λ v. get_or d₃ v 0 ⊕ p₂ v) f₂ v h
-    ∙ ap (λ (x : ℕ). x ⊕ p₂ v) (lane_of d₃ (λ v. 2 ⊗ get_or l₃ v 0) e₃ v h ∙ ap (λ (x : ℕ). 2 ⊗ x) first) in
-    let third : get_or l₁ v 0 ≡ 2 ⊗ (2 ⊗ (0 ⊕ p₃ v) ⊕ p₂ v) ⊕ p₁ v =
-    lane_of l₁ (λ v. get_or d₂ v 0 ⊕ p₁ v) f₁ v h
-    ∙ ap (λ (x : ℕ). x ⊕ p₁ v) (lane_of d₂ (λ v. 2 ⊗ get_or l₂ v 0) e₂ v h ∙ ap (λ (x : ℕ). 2 ⊗ x) second) in
-    ap (λ (x : ℕ). x ⊕ p₀ v) (lane_of d₁ (λ v. 2 ⊗ get_or l₁ v 0) e₁ v h ∙ ap (λ (x : ℕ). 2 ⊗ x) third))
 
 -- the sum by the low halves and α times that by the high halves are the sum by the coefficients
 pub by_both_halves : (m : ℕ) (lows highs c y : ℕ → ℕ)

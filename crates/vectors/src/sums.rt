@@ -49,13 +49,10 @@ fn by_nibble(halves: &[u8; 8], pairs: &[[u8; 64]; 32], count: usize) -> [u8; 64]
     ensures { result ≡ halves_sum halves.now pairs.now count }
 {
     let mut total = [0u8; 64];
-    add_plane(&mut total, halves, 3, pairs, count);
-    double(&mut total);
-    add_plane(&mut total, halves, 2, pairs, count);
-    double(&mut total);
-    add_plane(&mut total, halves, 1, pairs, count);
-    double(&mut total);
-    add_plane(&mut total, halves, 0, pairs, count);
+    for t in (0..4).rev() {
+        double(&mut total);
+        add_plane(&mut total, halves, t, pairs, count);
+    }
     total
 }
 

@@ -1,27 +1,41 @@
--- Four planes, the highest first, with a doubling before each but the first.
-use mathlib.Core.Path.{◌∙◌}
-use Prim.Native.Nat.{ℕ, ◌*◌}
-use lib.ListN.{get_or}
+-- Before bit t - 1 is taken, the sum is that by the halves without their lowest t bits.
+use mathlib.Core.Path.{◌≡◌, refl, sym, ap, ◌∙◌}
+use native.Mathlib.Omega.{arith}
+use Prim.Native.Nat.{ℕ, ◌+◌, ◌-◌, ◌*◌}
+use lib.ListN.{get_or, replicate}
 use Rattle.galois.specs.Byte.{◌⊕◌, ◌⊗◌}
 use Rattle.galois.specs.Sum.{sum}
-use Rattle.galois.proofs.ByIndex.{table_equal}
+use Rattle.galois.proofs.ByIndex.{is_table, table_equal}
 use Rattle.gathering.specs.Pairs.{vector_of}
 use Rattle.halves.specs.Halves.{half_of, halves_sum}
-use Rattle.halves.proofs.Planes.{term_at, four_planes, by_four_bits}
+use Rattle.halves.proofs.Planes.{zeros, lane_of, term_at, upper_sum, none_upper, next_upper, all_upper}
 use Rattle.vectors.proofs.sums.by_nibble.Goals as goal
+
+pub loop-t-init : goal.loop-t-init
+loop-t-init c =
+    is_table 64 (upper_sum c.args.halves.now c.args.pairs.now c.args.count 4) 0 (replicate 64 0) refl
+    (λ v h. zeros 64 v ∙ sym (none_upper c.args.halves.now c.args.pairs.now c.args.count v))
+
+pub loop-t-preserved : goal.loop-t-preserved
+loop-t-preserved c =
+    let t = c.loop-t.t - 1 in
+    let upper = upper_sum c.args.halves.now c.args.pairs.now c.args.count in
+    let next : c.loop-t.t ≡ t + 1 = omega arith in
+    let plane : ℕ → ℕ = λ v. sum (c.args.count * 2) (term_at c.args.halves.now t c.args.pairs.now v) in
+    c.add_plane.ensures
+    ∙ table_equal 64 (λ v. get_or c.double.new.sum v 0 ⊕ plane v) (upper t)
+    (λ v h.
+    ap (λ (x : ℕ). x ⊕ plane v)
+    (lane_of c.double.new.sum (λ v. 2 ⊗ get_or c.loop-t.total v 0) c.double.ensures v h
+    ∙ ap (λ (x : ℕ). 2 ⊗ x) (lane_of c.loop-t.total (upper c.loop-t.t) c.loop-t.invariant v h ∙ ap (λ (u : ℕ). upper u v) next))
+    ∙ next_upper c.args.halves.now c.args.pairs.now c.args.count v t (omega arith))
 
 pub returns : goal.returns
 unfolding halves_sum
 returns c =
-    let plane : ℕ → ℕ → ℕ = λ t v. sum (c.args.count * 2) (term_at c.args.halves.now t c.args.pairs.now v) in
-    four_planes (plane 3) (plane 2) (plane 1) (plane 0) _ _ _ _ _ _ _
-    c.add_plane.ensures
-    c.double.ensures
-    c.add_plane-2.ensures
-    c.double-2.ensures
-    c.add_plane-3.ensures
-    c.double-3.ensures
-    c.add_plane-4.ensures
-    ∙ table_equal 64 (λ v. 2 ⊗ (2 ⊗ (2 ⊗ (0 ⊕ plane 3 v) ⊕ plane 2 v) ⊕ plane 1 v) ⊕ plane 0 v)
+    let upper = upper_sum c.args.halves.now c.args.pairs.now c.args.count in
+    let none_left : c.loop-t.t ≡ 0 = omega arith in
+    c.loop-t.invariant
+    ∙ table_equal 64 (upper c.loop-t.t)
     (λ v. sum (c.args.count * 2) (λ i. half_of c.args.halves.now i ⊗ get_or (vector_of c.args.pairs.now i) v 0))
-    (λ v h. by_four_bits (c.args.count * 2) c.args.halves.now (λ i. get_or (vector_of c.args.pairs.now i) v 0))
+    (λ v h. ap (λ (u : ℕ). upper u v) none_left ∙ all_upper c.args.halves.now c.args.pairs.now c.args.count v)
