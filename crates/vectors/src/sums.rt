@@ -31,6 +31,7 @@ fn add(sum: &mut [u8; 64], vector: &[u8; 64])
 }
 
 // Adds the vectors whose half has bit t.
+#[tactic(auto, using(halves::proofs::Planes::at_most_17))]
 fn add_plane(total: &mut [u8; 64], halves: &[u8; 8], t: u32, pairs: &[[u8; 64]; 32], count: usize)
     requires { (t < 4) × (count ≤ 8) × Paired count pairs.now }
     ensures { total.new

@@ -9,29 +9,13 @@ use Rattle.galois.specs.Byte.{◌⊕◌}
 use Rattle.galois.specs.Sum.{sum}
 use Rattle.galois.proofs.ByIndex.{is_table, get_or-table, length-table}
 use Rattle.galois.proofs.Xor.{plus_assoc, plus_zero}
-use Rattle.halves.proofs.Planes.{lane, term_at, at_most_17, next_pair}
+use Rattle.halves.proofs.Planes.{lane, term_at, next_pair}
 use Rattle.vectors.proofs.sums.add_plane.Goals as goal
 
 pub loop-j-init : goal.loop-j-init
 unfolding sum
 loop-j-init c =
     (c.told-total, λ v h. sym (plus_zero (get_or c.args.total.now v 0)))
-
-pub overflow_cast-halves : goal.overflow_cast-halves
-overflow_cast-halves c =
-    omega (arith, at_most_17 c.args.halves.now c.loop-j.j c.args.t)
-
-pub overflow_add-j : goal.overflow_add-j
-overflow_add-j c =
-    omega (arith, at_most_17 c.args.halves.now c.loop-j.j c.args.t)
-
-pub offset_bounds-pairs-j : goal.offset_bounds-pairs-j
-offset_bounds-pairs-j c =
-    omega (arith, at_most_17 c.args.halves.now c.loop-j.j c.args.t)
-
-pub bounds-pairs-j : goal.bounds-pairs-j
-bounds-pairs-j c =
-    omega (arith, at_most_17 c.args.halves.now c.loop-j.j c.args.t)
 
 pub loop-j-preserved : goal.loop-j-preserved
 loop-j-preserved c =

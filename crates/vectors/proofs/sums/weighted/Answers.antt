@@ -1,7 +1,7 @@
 -- The loop fills the lanes from the front with the sum by the low halves and α times that by the high halves.
 use mathlib.Core.List.{[]}
-use mathlib.Core.Path.{refl, ap, ap₂, ◌∙◌}
-use native.Mathlib.Nat.{not-suc-le-zero, div-one}
+use mathlib.Core.Path.{ap, ap₂, ◌∙◌}
+use native.Mathlib.Nat.{div-one}
 use native.Mathlib.Omega.{arith}
 use Prim.Native.Nat.{ℕ, ◌*◌, ◌%◌}
 use lib.ListN.{get_or, length-set}
@@ -13,10 +13,6 @@ use Rattle.vectors.specs.Weighted.{weighted_of}
 use Rattle.halves.specs.Halves.{half_of, halves_sum}
 use Rattle.halves.proofs.Planes.{lane_of, by_both_halves}
 use Rattle.vectors.proofs.sums.weighted.Goals as goal
-
-pub loop-v-init : goal.loop-v-init
-loop-v-init c =
-    (refl, λ i h. absurd (not-suc-le-zero h))
 
 pub loop-v-preserved : goal.loop-v-preserved
 loop-v-preserved c = (
