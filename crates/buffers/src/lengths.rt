@@ -5,6 +5,7 @@ ghost use Rattle.protocol.specs.Lengths.{message_len, frame_len, sender_len, bod
 use code::Settings;
 
 // A message: k × L bytes.
+#[tactic(auto, using(protocol::proofs::LengthBounds::message_small), unfolding(protocol::specs::Lengths::message_len))]
 pub fn message_len(s: Settings) -> usize
     ensures { result ≡ message_len s }
 {
@@ -12,6 +13,7 @@ pub fn message_len(s: Settings) -> usize
 }
 
 // A frame's body: n × L bytes.
+#[tactic(auto, using(protocol::proofs::LengthBounds::body_small), unfolding(protocol::specs::Lengths::body_len))]
 pub fn body_len(s: Settings) -> usize
     ensures { result ≡ body_len s }
 {
@@ -19,6 +21,7 @@ pub fn body_len(s: Settings) -> usize
 }
 
 // A frame: 14 bytes of header, and its body.
+#[tactic(auto, using(protocol::proofs::LengthBounds::body_small), unfolding(protocol::specs::Lengths::frame_len))]
 pub fn frame_len(s: Settings) -> usize
     ensures { result ≡ frame_len s }
 {
@@ -26,6 +29,7 @@ pub fn frame_len(s: Settings) -> usize
 }
 
 // The sender's rows: n - 1 messages.
+#[tactic(auto, using(protocol::proofs::LengthBounds::sender_small), unfolding(protocol::specs::Lengths::sender_len))]
 pub fn sender_len(s: Settings) -> usize
     ensures { result ≡ sender_len s }
 {
@@ -33,6 +37,7 @@ pub fn sender_len(s: Settings) -> usize
 }
 
 // One of the receiver's rows: whether it was received, and the body.
+#[tactic(auto, using(protocol::proofs::LengthBounds::body_small), unfolding(protocol::specs::Lengths::row_len))]
 pub fn row_len(s: Settings) -> usize
     ensures { result ≡ row_len s }
 {
@@ -40,6 +45,7 @@ pub fn row_len(s: Settings) -> usize
 }
 
 // How many rows the receiver has: k + T.
+#[tactic(auto, unfolding(protocol::specs::Lengths::row_count, code::specs::Settings::k_of, code::specs::Settings::delay_of))]
 pub fn row_count(s: Settings) -> usize
     ensures { result ≡ row_count s }
 {
@@ -47,6 +53,7 @@ pub fn row_count(s: Settings) -> usize
 }
 
 // The receiver's rows.
+#[tactic(auto, using(protocol::proofs::LengthBounds::receiver_small), unfolding(protocol::specs::Lengths::receiver_len))]
 pub fn receiver_len(s: Settings) -> usize
     ensures { result ≡ receiver_len s }
 {

@@ -6,6 +6,7 @@ ghost use Rattle.protocol.specs.Frame.{five, header};
 use code::Settings;
 
 // W, T, B, N and L.
+#[tactic(auto, unfolding(protocol::specs::Frame::five))]
 pub fn settings_bytes(s: Settings) -> [u8; 5]
     ensures { result ≡ five s }
 {

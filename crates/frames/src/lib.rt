@@ -15,6 +15,7 @@ use protocol::Cause;
 pub use reading::slot_read_cause;
 
 // W, T, B, N and L, from the place `start`. Each is read at its place: a pattern over the slice would need an arm for fewer bytes.
+#[tactic(auto, unfolding(crate::specs::Fields::settings_at))]
 pub fn settings_at(bytes: &[u8], start: usize) -> Settings
     requires { start + 5 ≤ length bytes.now }
     ensures { result ≡ settings_at start bytes.now }
@@ -29,6 +30,7 @@ pub fn settings_at(bytes: &[u8], start: usize) -> Settings
 }
 
 // A slot in 32 bits, high byte first, from the place `start`.
+#[tactic(auto, unfolding(crate::specs::Fields::slot_at))]
 pub fn slot_at(bytes: &[u8], start: usize) -> u32
     requires { start + 4 ≤ length bytes.now }
     ensures { result ≡ slot_at start bytes.now }

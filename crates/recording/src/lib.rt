@@ -24,6 +24,7 @@ pub enum Found {
 }
 
 // What stands at an offset, for frames of a size. What is left is compared with the size, since their sum might not fit.
+#[tactic(auto, using(std::proofs::lemmas::Bool::Decides::nat_tests), unfolding(crate::specs::Found::found_at))]
 fn frame_at(recording: &[u8], offset: usize, size: usize) -> Found
     ensures { result ≡ found_at recording.now offset size }
 {

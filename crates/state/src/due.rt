@@ -7,6 +7,7 @@ use frames::settings_at;
 use protocol::Cause;
 
 // Whether the bytes begin with the mark of either end.
+#[tactic(auto, unfolding(crate::specs::State::either_mark))]
 fn is_either(bytes: &[u8]) -> bool
     requires { 4 ≤ length bytes.now }
     ensures { result ≡ either_mark bytes.now }
@@ -15,6 +16,7 @@ fn is_either(bytes: &[u8]) -> bool
 }
 
 // The first cause for which the slot due is not read from these bytes: their length, or that they are no state.
+#[tactic(auto, using(std::proofs::lemmas::Bool::Decides::nat_tests), unfolding(crate::specs::State::due_read_cause))]
 pub fn due_read_cause(state: &[u8]) -> Result<(), Cause>
     ensures { result ≡ due_read_cause state.now }
 {

@@ -24,6 +24,7 @@ pub const SENDER_END: u8 = b'S';
 pub const RECEIVER_END: u8 = b'R';
 
 // The sender that a state keeps.
+#[tactic(auto, unfolding(crate::specs::State::sender_in))]
 pub fn sender_in(state: &[u8]) -> Sender
     requires { state_len ≤ length state.now }
     ensures { result ≡ sender_in state.now }
@@ -32,6 +33,7 @@ pub fn sender_in(state: &[u8]) -> Sender
 }
 
 // The receiver that a state keeps.
+#[tactic(auto, unfolding(crate::specs::State::receiver_in))]
 pub fn receiver_in(state: &[u8]) -> Receiver
     requires { state_len ≤ length state.now }
     ensures { result ≡ receiver_in state.now }
@@ -55,6 +57,7 @@ fn is_marked(end: u8, bytes: &[u8]) -> bool
 }
 
 // The first cause that a state of this end gives, before those of the call on what it keeps.
+#[tactic(auto, using(std::proofs::lemmas::Bool::Decides::nat_tests), unfolding(crate::specs::State::state_cause))]
 pub fn state_cause(end: u8, state: &[u8]) -> Result<(), Cause>
     ensures { result ≡ state_cause end state.now }
 {
