@@ -1,14 +1,20 @@
 // Document 01's figures 9 to 12, run on both ends with one lane and then with three, document 02's example of a short window, and two lanes
 // whose parity differs: a line for each, in which every lent byte begins as 7. Of the three lanes, lane 1 has α times the messages of
-// lane 0, and lane 2 has them a slot later.
+// lane 0, and lane 2 has them a slot later. The lengths of rows are written out here, worked out by hand: a wrong one would be refused.
 #![tactic(auto)]
 
-ghost use Rattle.std.specs.Prelude.{◌≡◌, ◌≤◌, ◌<◌, length};
+ghost use Rattle.std.specs.Prelude.{◌≡◌, ◌≤◌};
 
 use code::Settings;
 use output::Output;
-use protocol::{Cause, Outcome, Receiver, Sender, Told};
+use protocol::{Cause, Told};
 use std::io::{self, BufWriter, Write};
+
+// The messages of slots 0 to 5, by symbols. Behind those of fewer lanes than three stand zeros.
+type Messages = [[u8; 6]; 6];
+
+// The frames of slots 0 to 5. Behind those of fewer lanes than three stand bytes that are not lent.
+type Frames = [[u8; 26]; 6];
 
 // The card's settings with so many lanes; k is 2 and n is 4.
 fn settings(lanes: u8) -> Settings
@@ -19,7 +25,7 @@ fn settings(lanes: u8) -> Settings
         delay: 3,
         burst: 2,
         scattered: 2,
-        lanes: lanes,
+        lanes,
     }
 }
 
@@ -29,165 +35,79 @@ fn short(delay: u8) -> Settings
 {
     Settings {
         window: 3,
-        delay: delay,
+        delay,
         burst: 2,
         scattered: 1,
         lanes: 1,
     }
 }
 
-// The bytes from a place on, in hex.
-fn print_bytes<W: Write>(out: &mut Output<W>, bytes: &[u8], first: usize) {
-    let mut q = first;
-    while q < bytes.len() {
-        out.put_hex(bytes[q]);
-        q += 1;
+// The bytes behind so many, in hex.
+fn print_bytes<W: Write>(out: &mut Output<W>, bytes: &[u8], skipped: usize) {
+    for byte in bytes.iter().skip(skipped) {
+        out.put_hex(*byte);
     }
 }
 
-fn print_reply<W: Write>(out: &mut Output<W>, r: Result<Told, Cause>, message: &[u8]) {
-    match r {
-        Err(c) => {
-            out.put(b" ");
-            out.put_decimal(u32::from(c) as u64);
-        }
-        Ok(Told::NoneYet) => {
-            out.put(b" none");
-        }
-        Ok(Told::Whole) => {
-            out.put(b" whole ");
-            print_bytes(out, message, 0);
-        }
-        Ok(Told::Lost) => {
-            out.put(b" lost");
-        }
-        Ok(Told::Clash) => {
-            out.put(b" clash");
-        }
+// A reply, and the message that is whole.
+fn print_reply<W: Write>(out: &mut Output<W>, reply: Result<Told, Cause>, message: &[u8]) {
+    trace::reply(out, reply);
+    if let Ok(Told::Whole) = reply {
+        out.put(b" ");
+        print_bytes(out, message, 0);
     }
 }
 
-// The message of a slot in three lanes, by symbols.
-fn three_lanes(slot: usize) -> [u8; 6] {
-    match slot {
-        0 => [1, 16, 0, 0, 0, 0],
-        1 => [0, 0, 1, 1, 16, 0],
-        2 => [0, 0, 0, 0, 0, 1],
-        _ => [0, 0, 0, 0, 0, 0],
+// The messages of so many lanes: of one, lane 0 of three; of two, lane 0 and one that has its first message only.
+fn messages(lanes: usize) -> Messages {
+    let none = [0; 6];
+    match lanes {
+        1 => [
+            [1, 0, 0, 0, 0, 0],
+            [0, 1, 0, 0, 0, 0],
+            none,
+            none,
+            none,
+            none,
+        ],
+        2 => [
+            [1, 1, 0, 0, 0, 0],
+            [0, 0, 1, 0, 0, 0],
+            none,
+            none,
+            none,
+            none,
+        ],
+        _ => [
+            [1, 16, 0, 0, 0, 0],
+            [0, 0, 1, 1, 16, 0],
+            [0, 0, 0, 0, 0, 1],
+            none,
+            none,
+            none,
+        ],
     }
 }
 
-// The message of a slot in two lanes, the second of which has only the first message, with zeros behind it.
-fn two_lanes(slot: usize) -> [u8; 6] {
-    match slot {
-        0 => [1, 1, 0, 0, 0, 0],
-        1 => [0, 0, 1, 0, 0, 0],
-        _ => [0, 0, 0, 0, 0, 0],
-    }
-}
-
-// The message of a slot: with one lane that of lane 0 of three, with zeros behind it.
-fn message_of(lanes: usize, slot: usize) -> [u8; 6] {
-    if lanes == 2 {
-        return two_lanes(slot);
-    }
-    let m = three_lanes(slot);
-    if lanes == 1 {
-        return [m[0], m[3], 0, 0, 0, 0];
-    }
-    m
-}
-
-// The send of a slot; its frame is printed from a place on.
-fn send<W: Write>(
-    out: &mut Output<W>,
-    x: Sender,
-    first: usize,
-    rows: &mut [u8],
-    message: &[u8],
-    frame: &mut [u8],
-) -> Sender {
-    let sent = sender::send(x, rows, message, frame);
-    out.put(b" ");
-    print_bytes(out, frame, first);
-    sent.state
-}
-
-// The sends of slots 0 to 5. There are 26 bytes for each frame.
+// The sends of slots 0 to 5. Of each frame the bytes behind so many are printed.
 fn send_all<W: Write>(
     out: &mut Output<W>,
     s: Settings,
-    first: usize,
+    skipped: usize,
     rows: &mut [u8],
-    frames: &mut [u8],
+    frames: &mut Frames,
 )
-    requires { (s.lanes ≤ 3) × (length frames.old ≡ 156) }
+    requires { s.lanes ≤ 3 }
 {
-    let opened = sender::open(s, rows);
     let lanes = s.lanes as usize;
-    let mut x = opened.state;
-    let mut slot: usize = 0;
-    while slot < 6 {
-        let message = message_of(lanes, slot);
-        let message_end = 2 * lanes;
-        let start = slot * 26;
-        let end = start + 14 + 4 * lanes;
-        x = send(
-            out,
-            x,
-            first,
-            rows,
-            &message[0..message_end],
-            &mut frames[start..end],
-        );
-        slot += 1;
+    let messages = messages(lanes);
+    let mut sender = sender::open(s, rows).state;
+    for (message, frame) in messages.iter().zip(frames.iter_mut()) {
+        let lent = &mut frame[..14 + 4 * lanes];
+        sender = sender::send(sender, rows, &message[..2 * lanes], lent).state;
+        out.put(b" ");
+        print_bytes(out, lent, skipped);
     }
-}
-
-// The report of a frame that is lost or heard.
-fn reported(
-    x: Receiver,
-    lost: bool,
-    rows: &mut [u8],
-    frame: &[u8],
-    message: &mut [u8],
-) -> Outcome<Told, Receiver> {
-    if lost {
-        return receiver::loss(x, rows, message);
-    }
-    receiver::heard(x, rows, frame, message)
-}
-
-fn report<W: Write>(
-    out: &mut Output<W>,
-    x: Receiver,
-    lost: bool,
-    rows: &mut [u8],
-    frame: &[u8],
-    message: &mut [u8],
-) -> Receiver {
-    let after = reported(x, lost, rows, frame, message);
-    print_reply(out, after.answer, message);
-    after.state
-}
-
-// The report of the frame of a slot, one of six, that another sender sent, if there is one.
-fn report_other<W: Write>(
-    out: &mut Output<W>,
-    x: Receiver,
-    slot: usize,
-    rows: &mut [u8],
-    others: &[u8],
-    message: &mut [u8],
-) -> Receiver
-    requires { slot < 6 }
-{
-    if others.len() < 156 {
-        return x;
-    }
-    let start = slot * 26;
-    let end = start + 18;
-    report(out, x, false, rows, &others[start..end], message)
 }
 
 // A receiver that is opened and hears slots 0 to 5, but for the first ones, which are lost; in each slot the frame of another sender, if
@@ -197,22 +117,27 @@ fn report_all<W: Write>(
     s: Settings,
     lost: usize,
     rows: &mut [u8],
-    frames: &[u8],
-    others: &[u8],
+    frames: &Frames,
+    others: Option<&Frames>,
     message: &mut [u8],
 )
-    requires { (s.lanes ≤ 3) × (length frames.now ≡ 156) }
+    requires { s.lanes ≤ 3 }
 {
-    let opened = receiver::open(s, 0, rows);
-    let lanes = s.lanes as usize;
-    let mut x = opened.state;
-    let mut slot: usize = 0;
-    while slot < 6 {
-        let start = slot * 26;
-        let end = start + 14 + 4 * lanes;
-        x = report_other(out, x, slot, rows, others, message);
-        x = report(out, x, slot < lost, rows, &frames[start..end], message);
-        slot += 1;
+    let size = 14 + 4 * s.lanes as usize;
+    let mut receiver = receiver::open(s, 0, rows).state;
+    for (slot, frame) in frames.iter().enumerate() {
+        if let Some(others) = others {
+            let reported = receiver::heard(receiver, rows, &others[slot][..size], message);
+            print_reply(out, reported.answer, message);
+            receiver = reported.state;
+        }
+        let reported = if slot < lost {
+            receiver::loss(receiver, rows, message)
+        } else {
+            receiver::heard(receiver, rows, &frame[..size], message)
+        };
+        print_reply(out, reported.answer, message);
+        receiver = reported.state;
     }
 }
 
@@ -222,22 +147,22 @@ fn play<W: Write>(
     s: Settings,
     size: usize,
     lost: usize,
-    frames: &[u8],
-    others: &[u8],
+    frames: &Frames,
+    others: Option<&Frames>,
 )
-    requires { (s.lanes ≤ 3) × (size ≤ 65) × (length frames.now ≡ 156) }
+    requires { (s.lanes ≤ 3) × (size ≤ 65) }
 {
-    let mut rows = [7u8; 65];
-    let mut message = [7u8; 6];
-    let message_end = 2 * s.lanes as usize;
+    let mut rows = [7; 65];
+    let mut message = [7; 6];
+    let end = 2 * s.lanes as usize;
     report_all(
         out,
         s,
         lost,
-        &mut rows[0..size],
+        &mut rows[..size],
         frames,
         others,
-        &mut message[0..message_end],
+        &mut message[..end],
     );
 }
 
@@ -247,68 +172,55 @@ fn figures<W: Write>(out: &mut Output<W>, s: Settings, size: usize)
     requires { (s.lanes ≤ 3) × (size ≤ 65) }
 {
     let lanes = s.lanes as usize;
-    let mut frames = [7u8; 156];
-    let mut remembered = [7u8; 18];
-    let remembered_end = 6 * lanes;
+    let mut frames = [[7; 26]; 6];
+    let mut remembered = [7; 18];
     out.put(b"9");
-    send_all(out, s, 14, &mut remembered[0..remembered_end], &mut frames);
+    send_all(out, s, 14, &mut remembered[..6 * lanes], &mut frames);
     out.put(b"\n10");
-    play(out, s, size, 2, &frames, b"");
+    play(out, s, size, 2, &frames, None);
     out.put(b"\n11");
-    play(out, s, size, 3, &frames, b"");
+    play(out, s, size, 3, &frames, None);
     out.put(b"\n12");
-    let place = 66 + 2 * lanes;
-    frames[place] = 2;
-    play(out, s, size, 0, &frames, b"");
+    frames[2][14 + 2 * lanes] = 2;
+    play(out, s, size, 0, &frames, None);
     out.put(b"\n");
-}
-
-// What begins a line of the short window.
-fn begin<W: Write>(out: &mut Output<W>, word: &[u8], delay: u8) {
-    out.put(word);
-    out.put(b" ");
-    out.put_decimal(delay as u64);
 }
 
 // The whole frames of a sender in the short window.
-fn sent<W: Write>(out: &mut Output<W>, delay: u8, frames: &mut [u8])
-    requires { length frames.old ≡ 156 }
-{
-    let mut remembered = [7u8; 6];
-    begin(out, b"sent", delay);
-    send_all(out, short(delay), 0, &mut remembered, frames);
+fn sent<W: Write>(out: &mut Output<W>, delay: u8) -> Frames {
+    let mut frames = [[7; 26]; 6];
+    let mut remembered = [7; 6];
+    write!(out, "sent {delay}");
+    send_all(out, short(delay), 0, &mut remembered, &mut frames);
     out.put(b"\n");
+    frames
 }
 
 // What a receiver there makes of these frames, the first two of which are lost, and of another sender's.
-fn heard<W: Write>(out: &mut Output<W>, delay: u8, frames: &[u8], others: &[u8])
-    requires { length frames.now ≡ 156 }
-{
-    begin(out, b"heard", delay);
-    play(out, short(delay), 20, 2, frames, others);
+fn heard<W: Write>(out: &mut Output<W>, delay: u8, frames: &Frames, others: &Frames) {
+    write!(out, "heard {delay}");
+    play(out, short(delay), 20, 2, frames, Some(others));
     out.put(b"\n");
 }
 
 // Document 02's example: T = 9 beside T = 2.
 fn short_window<W: Write>(out: &mut Output<W>) {
-    let mut nine = [7u8; 156];
-    let mut two = [7u8; 156];
-    sent(out, 9, &mut nine);
-    sent(out, 2, &mut two);
+    let nine = sent(out, 9);
+    let two = sent(out, 2);
     heard(out, 9, &nine, &two);
     heard(out, 2, &two, &nine);
 }
 
 // Two lanes that differ: the whole frames, and what is made of them with all heard, and without the first two.
 fn differing<W: Write>(out: &mut Output<W>) {
-    let mut frames = [7u8; 156];
-    let mut remembered = [7u8; 12];
+    let mut frames = [[7; 26]; 6];
+    let mut remembered = [7; 12];
     out.put(b"sent");
     send_all(out, settings(2), 0, &mut remembered, &mut frames);
     out.put(b"\nheard all");
-    play(out, settings(2), 45, 0, &frames, b"");
+    play(out, settings(2), 45, 0, &frames, None);
     out.put(b"\nheard without 0 and 1");
-    play(out, settings(2), 45, 2, &frames, b"");
+    play(out, settings(2), 45, 2, &frames, None);
     out.put(b"\n");
 }
 

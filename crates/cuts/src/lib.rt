@@ -7,6 +7,7 @@ ghost use Rattle.cuts.specs.Cuts.{end_of};
 use code::Settings;
 
 // The state that a call starts from, a receiver's with its opening slot, and what is not lent of the rows and of the two things after them.
+// What these two are each definition of specs/ says for its call, so that they have no names of their own.
 #[derive(Clone, Copy)]
 pub struct Call {
     pub settings: Settings,
@@ -21,8 +22,5 @@ pub struct Call {
 pub fn end(length: usize, cut: usize) -> usize
     ensures { result ≡ end_of length cut }
 {
-    if length < cut {
-        return 0;
-    }
-    length - cut
+    length.saturating_sub(cut)
 }

@@ -21,6 +21,7 @@ impl Random {
     // The next number modulo m.
     pub fn below(&mut self, m: usize) -> usize
         requires { 0 < m }
+        ensures below { result < m }
         ensures state { self.new.0 ≡ after self.old.0 }
         ensures number { result ≡ next_of self.old.0 % m }
     {

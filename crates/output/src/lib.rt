@@ -1,7 +1,7 @@
 // Text on its way to a writer. A write that fails ends the output: nothing more is written, and the error is told at the end.
 #![tactic(auto)]
 
-ghost use Rattle.std.specs.Prelude.{◌≡◌, ◌/◌, ◌%◌, [], ◌∷◌, false, IsOk, OnOk, OnErr, IfSome, decimal};
+ghost use Rattle.std.specs.Prelude.{◌≡◌, ◌/◌, ◌%◌, [], ◌∷◌, false, IsOk, OnOk, OnErr, IfSome};
 ghost use Rattle.std.specs.Fmt.{digit_glyph};
 ghost use Rattle.std.specs.Io.KnownBytes.{Appends};
 
@@ -46,16 +46,6 @@ impl<W: Write> Output<W> {
     {
         if self.written.is_ok() {
             self.written = self.writer.write_fmt(text);
-        }
-    }
-
-    // A number in decimal.
-    pub fn put_decimal(&mut self, n: u64)
-        ensures written { OnOk self.new.written (Appends (W.contents self.old.writer) (W.contents self.new.writer) (decimal n)) }
-        ensures ended { OnErr self.old.written (self.new ≡ self.old) }
-    {
-        if self.written.is_ok() {
-            self.written = write!(self.writer, "{n}");
         }
     }
 

@@ -1,55 +1,59 @@
-// The bytes of a pattern: a codeword, one with a byte changed, or any.
+// The flags and the bytes of a pattern, which are those of a codeword, of one with a byte changed, or any.
 ghost use Rattle.std.specs.Prelude.{◌≤◌, ◌<◌};
 ghost use Rattle.code.specs.Settings.{n_of};
 
-use crate::random;
 use code::Settings;
+use drawing::Random;
 use gf256::Gf256;
 
-// Position p of the word whose first symbols are given.
-fn symbol(rows: &[[u8; 16]; 16], symbols: &[u8; 16], p: usize) -> u8
-    requires { p < 16 }
-{
-    let mut total = Gf256(0);
-    let mut r: usize = 0;
-    while r < 16 {
-        total = total.sum(Gf256(symbols[r]).product(Gf256(rows[r][p])));
-        r += 1;
+pub(crate) fn flags(random: &mut Random) -> [u8; 16] {
+    let mut flags = [0; 16];
+    for flag in flags.iter_mut() {
+        *flag = random.pick(&[0, 1, 1, 7]);
     }
-    total.0
+    flags
 }
 
+// As many bytes as are asked for, and then zeros.
+fn bytes(random: &mut Random, count: usize) -> [u8; 16]
+    requires { count ≤ 16 }
+{
+    let mut bytes = [0; 16];
+    random.fill(&mut bytes[..count]);
+    bytes
+}
+
+// The word whose first symbols are given.
 fn codeword(s: Settings, symbols: [u8; 16]) -> [u8; 16] {
     let rows = encoder::systematic(s);
-    let mut out = [0u8; 16];
-    let mut p: usize = 0;
-    while p < 16 {
-        out[p] = symbol(&rows, &symbols, p);
-        p += 1;
+    let mut word = [0; 16];
+    for (p, byte) in word.iter_mut().enumerate() {
+        let mut total = Gf256(0);
+        for (symbol, row) in symbols.iter().zip(rows.iter()) {
+            total = total.sum(Gf256(*symbol).product(Gf256(row[p])));
+        }
+        *byte = total.0;
     }
-    out
+    word
 }
 
 // The word with one of its first n bytes changed.
-fn changed(word: [u8; 16], x: &mut u64, n: usize) -> [u8; 16]
+fn changed(mut word: [u8; 16], random: &mut Random, n: usize) -> [u8; 16]
     requires { (0 < n) × (n ≤ 16) }
 {
-    let q = random::below(x, n);
-    let e = random::below(x, 255) + 1;
-    let mut out = word;
-    out[q] = word[q] ^ e as u8;
-    out
+    let q = random.below(n);
+    let e = random.below(255) + 1;
+    word[q] ^= e as u8;
+    word
 }
 
-pub(crate) fn arrived(s: Settings, j: u8, x: &mut u64) -> [u8; 16]
+#[tactic(auto, unfolding(code::specs::Settings::n_of, code::specs::Settings::k_of))]
+pub(crate) fn arrived(s: Settings, j: u8, random: &mut Random) -> [u8; 16]
     requires { n_of s ≤ 16 }
 {
-    if j % 3 == 2 {
-        return random::bytes(x, 16);
+    match j % 3 {
+        0 => codeword(s, bytes(random, s.sources())),
+        1 => changed(codeword(s, bytes(random, s.sources())), random, s.symbols()),
+        _ => bytes(random, 16),
     }
-    let word = codeword(s, random::bytes(x, s.sources()));
-    if j % 3 == 0 {
-        return word;
-    }
-    changed(word, x, s.symbols())
 }

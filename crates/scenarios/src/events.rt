@@ -1,62 +1,67 @@
 // What happens to a slot's frame.
-use crate::random;
+use crate::faults::Faults;
+use drawing::Random;
 
-// Whether the frame is lost, the faults of a report before the true one, those of the true one, and how many losses are left over.
+// Whether the frame is lost, the faults of a report before the true one if there is such a report, those of the true one, and how many
+// losses are left over.
 #[derive(Clone, Copy)]
 pub(crate) struct Event {
     pub(crate) lost: bool,
-    pub(crate) faults: usize,
-    pub(crate) last: usize,
+    pub(crate) before: Option<Faults>,
+    pub(crate) last: Faults,
     pub(crate) left: usize,
 }
 
-// The set of faults of a refused report before the event's own one.
-fn faults_of(e: usize, x: &mut u64) -> usize {
-    match e {
-        9 => 8,
-        10 => 16,
-        11 => 32,
-        12 => 2,
-        13 => random::below(x, 63) + 1,
-        15 => random::below(x, 7) + 1,
-        _ => 0,
-    }
-}
+// The event of a loss with nothing wrong, and of a frame that is heard.
+const LOST: Event = Event {
+    lost: true,
+    before: None,
+    last: Faults::NONE,
+    left: 0,
+};
 
-// The faults of event 8's own report: once in three times a byte of the body.
-fn body_fault(x: &mut u64) -> usize {
-    if 0 < random::below(x, 3) {
-        return 0;
-    }
-    64
-}
+const HEARD: Event = Event {
+    lost: false,
+    ..LOST
+};
 
-// A loss that is left over, or one of the sixteen events; 14 begins a burst.
-pub(crate) fn draw(left: usize, burst: u8, x: &mut u64) -> Event {
-    let mut out = Event {
-        lost: true,
-        faults: 0,
-        last: 0,
-        left: 0,
-    };
+// A loss that is left over, or one of the sixteen events.
+pub(crate) fn draw(left: usize, burst: u8, random: &mut Random) -> Event {
     if 0 < left {
-        out.left = left - 1;
-        return out;
+        return Event {
+            left: left - 1,
+            ..LOST
+        };
     }
-    let e = random::below(x, 16);
-    out.faults = faults_of(e, x);
-    match e {
-        6 | 7 | 15 => {}
+    let before = |faults| Event {
+        before: Some(faults),
+        ..HEARD
+    };
+    match random.below(16) {
+        6 | 7 => LOST,
+        // once in three times a byte of the body is damaged
         8 => {
-            out.lost = false;
-            out.last = body_fault(x);
+            let last = if random.below(3) == 0 {
+                Faults::BODY
+            } else {
+                Faults::NONE
+            };
+            Event { last, ..HEARD }
         }
-        14 => {
-            out.left = random::below(x, burst as usize + 2);
-        }
-        _ => {
-            out.lost = false;
-        }
+        9 => before(Faults::MARK),
+        10 => before(Faults::SET),
+        11 => before(Faults::PLACE),
+        12 => before(Faults::LENGTH),
+        13 => before(Faults::drawn(63, random)),
+        // a burst begins
+        14 => Event {
+            left: random.below(usize::from(burst) + 2),
+            ..LOST
+        },
+        15 => Event {
+            before: Some(Faults::drawn(7, random)),
+            ..LOST
+        },
+        _ => HEARD,
     }
-    out
 }

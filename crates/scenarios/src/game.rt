@@ -1,178 +1,154 @@
 // Both ends with their buffers, and a slot of them.
-ghost use Rattle.std.specs.Prelude.{◌≤◌};
-
+use crate::buffer::Buffer;
 use crate::events::Event;
-use crate::{events, faults, random, rows};
+use crate::faults::Faults;
+use crate::{Run, events, faults, openings};
 use code::Settings;
 use cuts::Call;
-use output::Output;
+use drawing::Random;
 use protocol::{Receiver, Sender};
 use std::io::Write;
 
-// The buffers, and how many bytes at the end of each are zeros behind what it is for; how many losses of a burst are left over, whether
-// rows are drawn behind the receiver's back, the settings and both ends.
-#[derive(Clone, Copy)]
+// The settings, both ends and their buffers; how many losses of a burst are left over, and whether rows are drawn behind the receiver's
+// back.
+#[derive(Drop)]
 pub(crate) struct Game {
-    pub(crate) sent: [u8; 32768],
-    pub(crate) received: [u8; 32768],
-    pub(crate) frame: [u8; 1040],
-    pub(crate) buffer: [u8; 1040],
-    pub(crate) sent_cut: usize,
-    pub(crate) received_cut: usize,
-    pub(crate) frame_cut: usize,
-    pub(crate) buffer_cut: usize,
-    pub(crate) left: usize,
-    pub(crate) lent: bool,
     pub(crate) settings: Settings,
     pub(crate) sender: Sender,
     pub(crate) receiver: Receiver,
+    pub(crate) sent: Buffer<32768>,
+    pub(crate) received: Buffer<32768>,
+    pub(crate) frame: Buffer<1040>,
+    pub(crate) buffer: Buffer<1040>,
+    pub(crate) left: usize,
+    pub(crate) lent: bool,
 }
 
 // The faults of a send before the true one: none, seven times of eight.
-fn send_faults(x: &mut u64) -> usize {
-    if 0 < random::below(x, 8) {
-        return 0;
+fn send_faults(random: &mut Random) -> Option<Faults> {
+    (random.below(8) == 0).then(|| Faults::drawn(7, random))
+}
+
+impl Game {
+    // The buffers drawn, and both ends opened in them, the receiver at this slot.
+    pub(crate) fn opened<W: Write>(run: &mut Run<W>, s: Settings, slot: u32, lent: bool) -> Game {
+        let mut sent = Buffer::drawn(buffers::sender_len(s), &mut run.random);
+        let mut received = Buffer::drawn(buffers::receiver_len(s), &mut run.random);
+        let frame = Buffer::drawn(buffers::frame_len(s), &mut run.random);
+        let buffer = Buffer::drawn(buffers::message_len(s), &mut run.random);
+        Game {
+            settings: s,
+            sender: openings::of_sender(run, s, &mut sent),
+            receiver: openings::of_receiver(run, s, slot, &mut received),
+            sent,
+            received,
+            frame,
+            buffer,
+            left: 0,
+            lent,
+        }
     }
-    random::below(x, 7) + 1
-}
 
-// The game after a send.
-fn sent<W: Write>(out: &mut Output<W>, game: Game, call: Call, message: &[u8; 1040]) -> Game {
-    let mut rows = game.sent;
-    let mut frame = game.frame;
-    let sender = trace::send(out, call, &mut rows, message, &mut frame);
-    let mut after = game;
-    after.sender = sender;
-    after.sent = rows;
-    after.frame = frame;
-    after
-}
-
-// The send of the slot due, with nothing wrong.
-fn exact_send(game: Game) -> Call {
-    let before = game.sender;
-    let settings = before.settings;
-    Call {
-        settings: settings,
-        opening: 0,
-        due: before.due,
-        rows: game.sent_cut,
-        first: game.buffer_cut,
-        second: game.frame_cut,
+    // So many slots.
+    pub(crate) fn rounds<W: Write>(&mut self, run: &mut Run<W>, count: usize) {
+        for _ in 0..count {
+            self.round(run);
+        }
     }
-}
 
-// How many slots before the start are sent: 16, or as many as there are.
-fn sends_before(start: u32) -> u32
-    ensures { (result ≤ start) × (result ≤ 16) }
-{
-    if start < 16 {
-        return start;
+    // A send and what happens to its frame.
+    fn round<W: Write>(&mut self, run: &mut Run<W>) {
+        self.sending(run);
+        self.touch_rows(&mut run.random);
+        let event = events::draw(self.left, self.settings.burst, &mut run.random);
+        self.receiving(run, event);
     }
-    16
-}
 
-// The messages of these slots, drawn and sent.
-pub(crate) fn sent_before<W: Write>(
-    out: &mut Output<W>,
-    game: Game,
-    start: u32,
-    x: &mut u64,
-) -> Game {
-    let count = sends_before(start);
-    let first = start - count;
-    let mut after = game;
-    after.sender.due = first;
-    let mut i: u32 = 0;
-    while i < count {
-        let message = random::bytes(after.buffer_cut, x);
-        after = sent(out, after, exact_send(after), &message);
-        i += 1;
+    // ---- sends
+
+    // The send of the slot due, with nothing wrong.
+    fn exact_send(&self) -> Call {
+        Call {
+            settings: self.sender.settings,
+            opening: 0,
+            due: self.sender.due,
+            rows: self.sent.cut,
+            first: self.buffer.cut,
+            second: self.frame.cut,
+        }
     }
-    after
-}
 
-// A message is drawn and sent, at times after a send with faults.
-fn sending<W: Write>(out: &mut Output<W>, game: Game, x: &mut u64) -> Game {
-    let exact = exact_send(game);
-    let message = random::bytes(game.buffer_cut, x);
-    let faults = send_faults(x);
-    let mut after = game;
-    if 0 < faults {
-        after = sent(out, game, faults::wrong(exact, 3, faults, x), &message);
+    // A message, drawn.
+    fn message(&self, random: &mut Random) -> Buffer<1040> {
+        let mut message = Buffer {
+            bytes: [0; 1040],
+            cut: self.buffer.cut,
+        };
+        message.draw(random);
+        message
     }
-    sent(out, after, exact, &message)
-}
 
-// The game after a report of a loss.
-fn lost<W: Write>(out: &mut Output<W>, game: Game, call: Call) -> Game {
-    let mut rows = game.received;
-    let mut buffer = game.buffer;
-    let receiver = trace::loss(out, call, &mut rows, &mut buffer);
-    let mut after = game;
-    after.receiver = receiver;
-    after.received = rows;
-    after.buffer = buffer;
-    after
-}
-
-// The game after a report of a frame.
-fn heard<W: Write>(out: &mut Output<W>, game: Game, call: Call, frame: &[u8; 1040]) -> Game {
-    let mut rows = game.received;
-    let mut buffer = game.buffer;
-    let receiver = trace::heard(out, call, &mut rows, frame, &mut buffer);
-    let mut after = game;
-    after.receiver = receiver;
-    after.received = rows;
-    after.buffer = buffer;
-    after
-}
-
-// The report of a lost frame, or of a changed copy of a heard one, from this receiver on.
-fn reported<W: Write>(
-    out: &mut Output<W>,
-    game: Game,
-    before: Receiver,
-    lost_now: bool,
-    faults: usize,
-    x: &mut u64,
-) -> Game {
-    let settings = before.settings;
-    let mut exact = Call {
-        settings: settings,
-        opening: before.opening,
-        due: before.due,
-        rows: game.received_cut,
-        first: game.buffer_cut,
-        second: game.buffer_cut,
-    };
-    if lost_now {
-        return lost(out, game, faults::wrong(exact, 2, faults, x));
+    fn send<W: Write>(&mut self, run: &mut Run<W>, call: Call, message: &Buffer<1040>) {
+        let (rows, frame) = (&mut self.sent.bytes, &mut self.frame.bytes);
+        self.sender = trace::send(&mut run.out, call, rows, &message.bytes, frame);
     }
-    exact.first = game.frame_cut;
-    let call = faults::wrong(exact, 3, faults, x);
-    let frame = game.frame;
-    let copy = faults::changed(frame, settings, faults, x);
-    heard(out, game, call, &copy)
-}
 
-// A report with faults, if there are any, and the true one.
-fn receiving<W: Write>(out: &mut Output<W>, game: Game, event: Event, x: &mut u64) -> Game {
-    let before = game.receiver;
-    let mut after = game;
-    if 0 < event.faults {
-        after = reported(out, game, before, event.lost, event.faults, x);
+    // The messages of up to 16 slots before the start, drawn and sent.
+    pub(crate) fn send_before<W: Write>(&mut self, run: &mut Run<W>, start: u32) {
+        let count = start.min(16);
+        self.sender.due = start - count;
+        for _ in 0..count {
+            let message = self.message(&mut run.random);
+            self.send(run, self.exact_send(), &message);
+        }
     }
-    after = reported(out, after, before, event.lost, event.last, x);
-    after.left = event.left;
-    after
-}
 
-// A send and what happens to its frame.
-pub(crate) fn round<W: Write>(out: &mut Output<W>, game: Game, x: &mut u64) -> Game {
-    let s = game.settings;
-    let sent = sending(out, game, x);
-    let touched = rows::touched(sent, x);
-    let event = events::draw(game.left, s.burst, x);
-    receiving(out, touched, event, x)
+    // A message is drawn and sent, at times after a send with faults.
+    fn sending<W: Write>(&mut self, run: &mut Run<W>) {
+        let exact = self.exact_send();
+        let message = self.message(&mut run.random);
+        if let Some(faults) = send_faults(&mut run.random) {
+            let call = faults::wrong(exact, 3, faults, &mut run.random);
+            self.send(run, call, &message);
+        }
+        self.send(run, exact, &message);
+    }
+
+    // ---- reports
+
+    // A report with faults, if there is one, and the true one.
+    fn receiving<W: Write>(&mut self, run: &mut Run<W>, event: Event) {
+        let before = self.receiver;
+        if let Some(faults) = event.before {
+            self.report(run, before, event.lost, faults);
+        }
+        self.report(run, before, event.lost, event.last);
+        self.left = event.left;
+    }
+
+    // The report of a lost frame, or of a changed copy of a heard one, from this receiver on.
+    fn report<W: Write>(&mut self, run: &mut Run<W>, before: Receiver, lost: bool, faults: Faults) {
+        let exact = Call {
+            settings: before.settings,
+            opening: before.opening,
+            due: before.due,
+            rows: self.received.cut,
+            first: self.buffer.cut,
+            second: self.buffer.cut,
+        };
+        let (rows, buffer) = (&mut self.received.bytes, &mut self.buffer.bytes);
+        if lost {
+            let call = faults::wrong(exact, 2, faults, &mut run.random);
+            self.receiver = trace::loss(&mut run.out, call, rows, buffer);
+        } else {
+            let exact = Call {
+                first: self.frame.cut,
+                ..exact
+            };
+            let call = faults::wrong(exact, 3, faults, &mut run.random);
+            let mut copy = self.frame.bytes;
+            faults::change(&mut copy, before.settings, faults, &mut run.random);
+            self.receiver = trace::heard(&mut run.out, call, rows, &copy, buffer);
+        }
+    }
 }

@@ -1,7 +1,8 @@
 // The openings of both ends: many with something wrong, and last the true one.
-use crate::{faults, random};
+use crate::buffer::Buffer;
+use crate::{Run, faults};
 use code::Settings;
-use output::Output;
+use drawing::Random;
 use protocol::{Receiver, Sender};
 use std::io::Write;
 
@@ -13,99 +14,104 @@ struct Opening {
     cut: usize,
 }
 
-// The opening of a number, which has broken settings, a wrong length, or both up to 10, and nothing wrong from 11 on.
-fn wrong(exact: Opening, r: usize, x: &mut u64) -> Opening {
-    let s = exact.settings;
-    let mut out = exact;
-    match r {
-        8 => {
-            out.cut = faults::off(exact.cut, false);
-        }
-        9 => {
-            out.cut = faults::off(exact.cut, true);
-        }
-        10 => {
-            out.settings = faults::broken(s, random::below(x, 8));
-            out.cut = faults::off(exact.cut, false);
-        }
-        _ => {
-            out.settings = faults::broken(s, r);
+impl Opening {
+    // With settings broken in this way.
+    fn broken(self, way: usize) -> Opening {
+        Opening {
+            settings: faults::broken(self.settings, way),
+            ..self
         }
     }
-    out
-}
 
-// A receiver's opening past the last slot, of the numbers 11 to 13: with nothing else wrong, a wrong length, or broken settings.
-fn late(exact: Opening, r: usize, x: &mut u64) -> Opening {
-    let s = exact.settings;
-    let mut out = exact;
-    out.slot = 4000000000 + random::below(x, 32768) as u32;
-    match r {
-        12 => {
-            out.cut = faults::off(exact.cut, false);
+    // With rows shorter by one, or longer.
+    fn off(self, more: bool) -> Opening {
+        Opening {
+            cut: faults::off(self.cut, more),
+            ..self
         }
-        13 => {
-            out.settings = faults::broken(s, random::below(x, 8));
-        }
-        _ => {}
     }
-    out
-}
 
-// The receiver's opening of a number: the last is the true one.
-fn numbered(exact: Opening, r: usize, x: &mut u64) -> Opening {
-    if r < 11 {
-        return wrong(exact, r, x);
+    // At a slot past the last.
+    fn late(self, random: &mut Random) -> Opening {
+        Opening {
+            slot: faults::past_the_last(random),
+            ..self
+        }
     }
-    if r < 14 {
-        return late(exact, r, x);
+
+    // Those of either end that have broken settings, a wrong length, or both.
+    fn wrong(self, random: &mut Random) -> [Opening; 11] {
+        [
+            self.broken(0),
+            self.broken(1),
+            self.broken(2),
+            self.broken(3),
+            self.broken(4),
+            self.broken(5),
+            self.broken(6),
+            self.broken(7),
+            self.off(false),
+            self.off(true),
+            self.broken(random.below(8)).off(false),
+        ]
     }
-    exact
+
+    // A receiver's past the last slot: with nothing else wrong, a wrong length, or broken settings.
+    fn too_late(self, random: &mut Random) -> [Opening; 3] {
+        [
+            self.late(random),
+            self.late(random).off(false),
+            self.late(random).broken(random.below(8)),
+        ]
+    }
 }
 
 // The openings of the sender.
 pub(crate) fn of_sender<W: Write>(
-    out: &mut Output<W>,
-    s: Settings,
-    cut: usize,
-    rows: &mut [u8],
-    x: &mut u64,
+    run: &mut Run<W>,
+    settings: Settings,
+    rows: &mut Buffer<32768>,
 ) -> Sender {
     let exact = Opening {
-        settings: s,
+        settings,
         slot: 0,
-        cut: cut,
+        cut: rows.cut,
     };
-    let mut sender = Sender::NONE;
-    let mut r: usize = 0;
-    while r < 12 {
-        let next = wrong(exact, r, x);
-        sender = trace::open_sender(out, next.settings, next.cut, rows);
-        r += 1;
+    for next in exact.wrong(&mut run.random) {
+        trace::open_sender(&mut run.out, next.settings, next.cut, &mut rows.bytes);
     }
-    sender
+    trace::open_sender(&mut run.out, settings, rows.cut, &mut rows.bytes)
 }
 
 // The openings of the receiver.
 pub(crate) fn of_receiver<W: Write>(
-    out: &mut Output<W>,
-    s: Settings,
+    run: &mut Run<W>,
+    settings: Settings,
     slot: u32,
-    cut: usize,
-    rows: &mut [u8],
-    x: &mut u64,
+    rows: &mut Buffer<32768>,
 ) -> Receiver {
     let exact = Opening {
-        settings: s,
-        slot: slot,
-        cut: cut,
+        settings,
+        slot,
+        cut: rows.cut,
     };
-    let mut receiver = Receiver::NONE;
-    let mut r: usize = 0;
-    while r < 15 {
-        let next = numbered(exact, r, x);
-        receiver = trace::open_receiver(out, next.settings, next.slot, next.cut, rows);
-        r += 1;
+    for next in exact.wrong(&mut run.random) {
+        trace::open_receiver(
+            &mut run.out,
+            next.settings,
+            next.slot,
+            next.cut,
+            &mut rows.bytes,
+        );
     }
-    receiver
+    for next in exact.too_late(&mut run.random) {
+        trace::open_receiver(
+            &mut run.out,
+            next.settings,
+            next.slot,
+            next.cut,
+            &mut rows.bytes,
+        );
+    }
+    trace::open_receiver(&mut run.out, settings, slot, rows.cut, &mut rows.bytes)
 }

@@ -1,5 +1,5 @@
 // The calls, and the line of each. A buffer has zeros behind the exact length of what it is for: how many bytes at its end are not lent
-// makes a thing of exact length, or one longer or shorter by one.
+// makes a thing of exact length, or one longer or shorter by one. Each buffer stands beside its cut, as in the definitions of cuts.
 ghost use Rattle.std.specs.Prelude.{◌≡◌};
 ghost use Rattle.cuts.specs.Cuts.{open_sender_cut, open_receiver_cut, send_cut, heard_cut, loss_cut};
 

@@ -5,3 +5,4 @@ mod lent;
 mod print;
 
 pub use lent::{heard, loss, open_receiver, open_sender, send};
+pub use print::{reply, settings};

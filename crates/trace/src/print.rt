@@ -1,77 +1,62 @@
 // The parts of a line. Each but the first has a space before it. Nothing lent is changed.
-ghost use Rattle.std.specs.Prelude.{◌<◌};
+ghost use Rattle.std.specs.Prelude.{◌≡◌, ◌<◌, OnOk, OnErr};
+ghost use Rattle.std.specs.Io.KnownBytes.{Appends};
+ghost use Rattle.trace.specs.Line.{settings_text, reply_text};
 
 use code::Settings;
 use output::Output;
 use protocol::{Cause, Outcome, Receiver, Sender, Told};
 use std::io::Write;
 
-// A number.
-fn number<W: Write>(out: &mut Output<W>, n: u64) {
-    out.put(b" ");
-    out.put_decimal(n);
-}
-
 // The five settings.
-fn settings<W: Write>(out: &mut Output<W>, s: Settings) {
-    number(out, s.window as u64);
-    number(out, s.delay as u64);
-    number(out, s.burst as u64);
-    number(out, s.scattered as u64);
-    number(out, s.lanes as u64);
+pub fn settings<W: Write>(out: &mut Output<W>, s: Settings)
+    ensures written { OnOk out.new.written (Appends (W.contents out.old.writer) (W.contents out.new.writer)
+        (settings_text s)) }
+    ensures ended { OnErr out.old.written (out.new ≡ out.old) }
+{
+    let Settings {
+        window,
+        delay,
+        burst,
+        scattered,
+        lanes,
+    } = s;
+    write!(out, " {window} {delay} {burst} {scattered} {lanes}");
 }
 
 // A sender's state: the settings and the slot due.
 fn sender_state<W: Write>(out: &mut Output<W>, x: Sender) {
     settings(out, x.settings);
-    number(out, x.due as u64);
+    write!(out, " {}", x.due);
 }
 
 // A receiver's: the settings, the opening slot and the slot due.
 fn receiver_state<W: Write>(out: &mut Output<W>, x: Receiver) {
     settings(out, x.settings);
-    number(out, x.opening as u64);
-    number(out, x.due as u64);
+    write!(out, " {} {}", x.opening, x.due);
 }
 
 // The outcome of an opening or a send.
-fn answer<W: Write>(out: &mut Output<W>, a: Result<(), Cause>) {
-    match a {
-        Ok(()) => {
-            out.put(b" ok");
-        }
-        Err(c) => {
-            number(out, u32::from(c) as u64);
-        }
+fn answer<W: Write>(out: &mut Output<W>, answer: Result<(), Cause>) {
+    match answer {
+        Ok(()) => out.put(b" ok"),
+        Err(cause) => write!(out, " {}", u32::from(cause)),
     }
 }
 
 // The outcome of a report.
-fn reply<W: Write>(out: &mut Output<W>, a: Result<Told, Cause>) {
-    match a {
-        Err(c) => {
-            number(out, u32::from(c) as u64);
-        }
-        Ok(Told::NoneYet) => {
-            out.put(b" none");
-        }
-        Ok(Told::Whole) => {
-            out.put(b" whole");
-        }
-        Ok(Told::Lost) => {
-            out.put(b" lost");
-        }
-        Ok(Told::Clash) => {
-            out.put(b" clash");
-        }
-    }
-}
-
-// A byte as a wide number.
-fn wide(b: u8) -> u64
-    ensures { result < 256 }
+pub fn reply<W: Write>(out: &mut Output<W>, reply: Result<Told, Cause>)
+    ensures written { OnOk out.new.written (Appends (W.contents out.old.writer) (W.contents out.new.writer)
+        (reply_text reply)) }
+    ensures ended { OnErr out.old.written (out.new ≡ out.old) }
 {
-    b as u64
+    match reply {
+        Err(cause) => write!(out, " {}", u32::from(cause)),
+        Ok(Told::NoneYet) => out.put(b" none"),
+        Ok(Told::Whole) => out.put(b" whole"),
+        Ok(Told::Lost) => out.put(b" lost"),
+        Ok(Told::Clash) => out.put(b" clash"),
+    }
 }
 
 // The sum of bytes, in which a byte counts once for itself and once for each byte before it: from the end on, the sum so far is added for
@@ -79,18 +64,11 @@ fn wide(b: u8) -> u64
 fn sum<W: Write>(out: &mut Output<W>, bytes: &[u8]) {
     let mut tail: u64 = 0;
     let mut total: u64 = 0;
-    let mut q = bytes.len();
-    while 0 < q {
-        q -= 1;
-        tail = (tail + wide(bytes[q])) % 65521;
+    for byte in bytes.iter().rev() {
+        tail = (tail + u64::from(*byte)) % 65521;
         total = (total + tail) % 65521;
     }
-    number(out, total);
-}
-
-// The end of a line.
-fn line_end<W: Write>(out: &mut Output<W>) {
-    out.put(b"\n");
+    write!(out, " {total}");
 }
 
 // The line of an opening of the sender.
@@ -103,7 +81,7 @@ pub(crate) fn opened_sender<W: Write>(
     answer(out, opened.answer);
     sender_state(out, opened.state);
     sum(out, rows);
-    line_end(out);
+    out.put(b"\n");
 }
 
 // The line of an opening of the receiver.
@@ -116,7 +94,7 @@ pub(crate) fn opened_receiver<W: Write>(
     answer(out, opened.answer);
     receiver_state(out, opened.state);
     sum(out, rows);
-    line_end(out);
+    out.put(b"\n");
 }
 
 // The line of a send.
@@ -131,7 +109,7 @@ pub(crate) fn sent<W: Write>(
     sender_state(out, sent.state);
     sum(out, frame);
     sum(out, rows);
-    line_end(out);
+    out.put(b"\n");
 }
 
 // The line of a report, from its first word on.
@@ -147,5 +125,5 @@ pub(crate) fn reported<W: Write>(
     receiver_state(out, r.state);
     sum(out, buffer);
     sum(out, rows);
-    line_end(out);
+    out.put(b"\n");
 }

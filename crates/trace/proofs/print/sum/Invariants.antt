@@ -1,12 +1,7 @@
--- The loop stays inside the slice, and both sums below 65521.
-use Prim.Native.Nat.{◌≤◌, ◌<◌}
-use lib.ListN.{length}
+-- Both sums stay below 65521.
+use Rattle.std.proofs.Common.{◌<◌}
 use Rattle.trace.proofs.print.sum.Given as goal
 
-abbrev pub invariant-loop-q : goal.invariant-loop-q
-invariant-loop-q g l =
-    (l.q ≤ length l.bytes) × (l.tail < 65521) × (l.total < 65521)
-
-abbrev pub decreases-loop-q : goal.decreases-loop-q
-decreases-loop-q g l =
-    l.q
+abbrev pub invariant-loop-byte : goal.invariant-loop-byte
+invariant-loop-byte g l =
+    (l.tail < 65521) × (l.total < 65521)
