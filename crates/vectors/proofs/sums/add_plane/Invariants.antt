@@ -10,4 +10,4 @@ use Rattle.vectors.proofs.sums.add_plane.Given as goal
 abbrev pub invariant-loop-j : goal.invariant-loop-j
 invariant-loop-j l =
     (length l.total ≡ 64)
-    × ((v : ℕ) → v < 64 → get_or l.total v 0 ≡ get_or l.initial.total v 0 ⊕ sum (l.j * 2) (term_at l.halves l.t l.pairs v))
+    × ((v : ℕ) → v < 64 → get_or l.total v 0 ≡ get_or l.initial.total v 0 ⊕ sum (l.j * 2) (term_at l.halves l.t l.pairs.table.now v))

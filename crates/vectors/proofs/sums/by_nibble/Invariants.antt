@@ -6,4 +6,4 @@ use Rattle.vectors.proofs.sums.by_nibble.Given as goal
 
 abbrev pub invariant-loop-t : goal.invariant-loop-t
 invariant-loop-t l =
-    l.total ≡ table 64 (upper_sum l.halves l.pairs l.count l.t)
+    l.total ≡ table 64 (upper_sum l.halves l.pairs.table.now l.pairs.count l.t)
