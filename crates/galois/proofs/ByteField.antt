@@ -13,7 +13,8 @@ use Rattle.galois.specs.Narrow.{◌⊞◌, ◌⊠◌, narrow_quotient}
 use Rattle.galois.proofs.Arithmetic.{arithmetic}
 use Rattle.galois.proofs.Cases.{equal_but_zero}
 use Rattle.galois.proofs.Field.{Field, quotient_below}
-use Rattle.galois.proofs.ByteProduct.{times_below, times_comm, times_assoc, zero_times, times_zero, one_times, distributes, high_below, low_below, high_low, low_low, eight_high}
+use Rattle.galois.proofs.ByteProduct.{times_below, times_comm, times_assoc, zero_times, times_zero, one_times}
+use Rattle.galois.proofs.ByteProduct.{distributes, high_below, low_below, high_low, low_low, eight_high}
 use Rattle.galois.proofs.NarrowField.{narrows}
 use Rattle.galois.proofs.Xor.{plus_below, plus_comm, plus_assoc, plus_self, zero_plus}
 

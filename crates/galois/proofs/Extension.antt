@@ -15,7 +15,8 @@ use Rattle.galois.specs.Sum.{sum}
 use Rattle.galois.proofs.Arithmetic.{arithmetic}
 use Rattle.galois.proofs.Cases.{and_left, and_right, or_cases, at, equal, equal₂}
 use Rattle.galois.proofs.ByteProduct.{high_below, low_below, high_high, high_low, low_high, low_low, eight_high, eight_below}
-use Rattle.galois.proofs.ByteProduct.{distributes, distributes_left, times_assoc, times_zero, high_remainder, low_remainder, remainder_times}
+use Rattle.galois.proofs.ByteProduct.{distributes, distributes_left, times_assoc}
+use Rattle.galois.proofs.ByteProduct.{times_zero, high_remainder, low_remainder, remainder_times}
 use Rattle.galois.proofs.NarrowField.{narrows}
 use Rattle.galois.proofs.Sums.{sum-equal, sum_plus, multiple_of_sum}
 use Rattle.galois.proofs.Xor.{plus_assoc, plus_comm, plus_below, zero_plus}

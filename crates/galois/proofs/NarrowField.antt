@@ -15,7 +15,8 @@ use Rattle.galois.specs.Reciprocal.{none, element}
 use Rattle.galois.specs.Narrow.{narrow, ◌⊞◌, times_z, times_bits, ◌⊠◌, narrow_reciprocals, narrow_reciprocal, narrow_quotient}
 use Rattle.galois.proofs.Cases.{at, and_left, and_right, equal, equal₂}
 use Rattle.galois.proofs.Field.{Field}
-use Rattle.galois.proofs.Xor.{plus_below, plus_comm, plus_assoc, plus_self, zero_plus, plus_zero, plus_exchange, Additive, additive_after, additive_equal}
+use Rattle.galois.proofs.Xor.{plus_below, plus_comm, plus_assoc, plus_self, zero_plus}
+use Rattle.galois.proofs.Xor.{plus_zero, plus_exchange, Additive, additive_after, additive_equal}
 
 -- ---- the narrow guard
 
@@ -84,7 +85,8 @@ bits_additive (suc m) a b c =
     ap₂ ◌⊕◌
     (ap (λ (r : ℕ). cond (eqb r 1) a 0) (xor_mod b c 1) ∙ bit_additive a (b % 2) (c % 2) (bit_below b) (bit_below c))
     (ap (times_bits m (times_z a)) (xor_shr b c 1) ∙ bits_additive m (times_z a) (b / 2) (c / 2))
-    ∙ plus_exchange (cond (eqb (b % 2) 1) a 0) (cond (eqb (c % 2) 1) a 0) (times_bits m (times_z a) (b / 2)) (times_bits m (times_z a) (c / 2))
+    ∙ plus_exchange (cond (eqb (b % 2) 1) a 0) (cond (eqb (c % 2) 1) a 0) (times_bits m (times_z a) (b / 2))
+    (times_bits m (times_z a) (c / 2))
 
 -- the product without the guard
 raw : ℕ → ℕ → ℕ
@@ -157,7 +159,8 @@ unfolding every ◌⊠◌ narrow times_bits times_z narrow_reciprocal narrow_rec
 listed zero h ne = absurd (ne refl)
 listed (suc a) h ne =
     let b : ℕ = get_or narrow_reciprocals a 0 in
-    let good = at 15 (λ a. ltb (get_or narrow_reciprocals a 0) 16 && eqb (suc a ⊠ get_or narrow_reciprocals a 0) 1) tt a (le_of_suc-le-suc h) in (
+    let good =
+    at 15 (λ a. ltb (get_or narrow_reciprocals a 0) 16 && eqb (suc a ⊠ get_or narrow_reciprocals a 0) 1) tt a (le_of_suc-le-suc h) in (
       b,
       ap (λ (t : Bool). cond t (element b) none) (lt-ltb (suc a) 16 h),
       ltb→lt b 16 (and_left (ltb b 16) (eqb (suc a ⊠ b) 1) good),

@@ -202,7 +202,8 @@ module _ (halves : List ℕ) (pairs : List (List ℕ)) (count v : ℕ) where
   -- without four bits nothing is left
   pub none_upper : upper_sum halves pairs count 4 v ≡ 0
   none_upper =
-      weights_zeros (count * 2) (λ i. get_or (vector_of pairs i) v 0) (λ i. half_of halves i / 2 ^ 4) (λ i h. omega (arith, half_below halves i))
+      weights_zeros (count * 2) (λ i. get_or (vector_of pairs i) v 0) (λ i. half_of halves i / 2 ^ 4)
+      (λ i h. omega (arith, half_below halves i))
 
   -- one bit more: what the bits above make is doubled, and the sum by the bit is added
   pub next_upper : (t : ℕ) → t < 4

@@ -28,8 +28,8 @@ loop-j-preserved c =
           ∙ ap (λ (x : ℕ). x ⊕ lane c.args.pairs.table.now e v) (c.loop-j.invariant.1 v h)
           ∙ plus_assoc (get_or c.args.total.now v 0) (sum (c.loop-j.j * 2) (term v)) (lane c.args.pairs.table.now e v)
           ∙ ap (λ (s : ℕ). get_or c.args.total.now v 0 ⊕ s)
-          (next_pair c.args.pairs.count c.args.pairs.table.now c.args.pairs.paired c.loop-j.j v (omega arith) h c.args.halves.now c.args.t c.requires
-          (c.add.ensures.bytes v)),
+          (next_pair c.args.pairs.count c.args.pairs.table.now c.args.pairs.paired c.loop-j.j v (omega arith) h c.args.halves.now
+          c.args.t c.requires (c.add.ensures.bytes v)),
     )
 
 pub returns : goal.returns

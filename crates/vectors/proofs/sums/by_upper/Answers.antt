@@ -5,4 +5,5 @@ use Rattle.vectors.proofs.sums.by_upper.Goals as goal
 pub returns-then-bits_used-eq0 : goal.returns-then-bits_used-eq0
 returns-then-bits_used-eq0 c =
     one_plane c.args.halves.now c.args.pairs.table.now c.args.pairs.count _
-    (halves_small c.args.halves.now c.args.pairs.count c.bits_used.result c.bits_used.ensures.under c.if-bits_used-eq0.true) c.add_plane.ensures
+    (halves_small c.args.halves.now c.args.pairs.count c.bits_used.result c.bits_used.ensures.under c.if-bits_used-eq0.true)
+    c.add_plane.ensures
