@@ -1,5 +1,5 @@
 -- Document 02 §7: two recordings of frames, of the first and of the second aerial, and the causes for which the pair is refused.
-use Rattle.std.specs.Prelude.{Bool, not, ◌&&◌, ◌||◌, List, [], ◌∷◌, ℕ, suc, ◌-◌, ◌*◌, ◌/◌, ◌%◌, eqb, leb, ltb, length, take, drop}
+use Rattle.std.specs.Prelude.{Bool, not, ◌&&◌, ◌||◌, List, [], ◌∷◌, ℕ, suc, ◌-◌, ◌*◌, ◌/◌, ◌%◌, eqb, leb, ltb, length, take, drop, map}
 use Rattle.galois.specs.Bounded.{any}
 use Rattle.code.specs.declared.settings.Settings.{Settings}
 use Rattle.code.specs.Settings.{accepted}
@@ -7,7 +7,9 @@ use Rattle.protocol.specs.Lengths.{frame_len}
 use Rattle.protocol.specs.Frame.{mark, five}
 use Rattle.protocol.specs.Causes.{agree}
 use Rattle.frames.specs.Fields.{slot_in}
+use Rattle.aerials.specs.declared.PairCause.TheVariants.{BadSettings, BadLength, OtherMark, OtherSettings, NotRising, Unlike}
 use Rattle.aerials.specs.Tables.{Numbered, numbered, first_number}
+use Rattle.aerials.specs.Causes.{Check, pair_number, PairRow, pair_row, first_cause}
 
 -- ---- a recording: frames of one length, back to back
 
@@ -55,16 +57,24 @@ unlike s first second =
 -- ---- the causes
 
 -- in the order of checking, each looked for in both recordings before the next
-abbrev pub pair_table : Settings → List ℕ → List ℕ → List Numbered
-pair_table s first second =
-    numbered (not (accepted s)) 1
-    ∷ numbered (unfit s first || unfit s second) 2
-    ∷ numbered (other_mark s first || other_mark s second) 4
-    ∷ numbered (other_settings s first || other_settings s second) 5
-    ∷ numbered (falling s first || falling s second) 9
-    ∷ numbered (unlike s first second) 10
+abbrev pub pair_rows : Settings → List ℕ → List ℕ → List PairRow
+pair_rows s first second =
+    pair_row (not (accepted s)) BadSettings
+    ∷ pair_row (unfit s first || unfit s second) BadLength
+    ∷ pair_row (other_mark s first || other_mark s second) OtherMark
+    ∷ pair_row (other_settings s first || other_settings s second) OtherSettings
+    ∷ pair_row (falling s first || falling s second) NotRising
+    ∷ pair_row (unlike s first second) Unlike
     ∷ []
+
+-- the same by the causes' numbers
+abbrev pub pair_table : Settings → List ℕ → List ℕ → List Numbered
+pair_table s first second = map (λ r. numbered r.holds (pair_number r.why)) (pair_rows s first second)
 
 -- the check of a pair: 0 where it is accepted, else the number of the first cause that holds
 unfoldable pub pair_cause : Settings → List ℕ → List ℕ → ℕ
 pair_cause s first second = first_number (pair_table s first second)
+
+-- what it answers: the first cause that holds, if one does
+unfoldable pub pair_check : Settings → List ℕ → List ℕ → Check
+pair_check s first second = first_cause (pair_rows s first second)

@@ -5,7 +5,7 @@
 ghost use Rattle.std.specs.Prelude.{◌≡◌};
 ghost use Rattle.aerials.specs.Causes.{pair_number};
 
-// Why a pair is refused, in the order of checking, each with its number.
+// Why a pair is refused, in the order of checking, each with its number, as `pair_number` of specs/Causes.antt says.
 #[derive(Clone, Copy, Debug, PartialEq, Eq)]
 pub enum PairCause {
     BadSettings = 1,

@@ -1,7 +1,7 @@
 -- Halving: what is known at first, and after each frame that is looked at.
 use mathlib.Core.Path.{◌≡◌, sym, ap}
 use mathlib.Core.List.{List}
-use mathlib.Core.Logic.{⊎_elim}
+use mathlib.Core.Logic.{◌≢◌, ⊎_elim}
 use Prim.Native.Nat.{ℕ, zero, suc, ◌+◌, ◌-◌, ◌≤◌, ◌<◌, min}
 use native.Mathlib.Nat.{add-zero, add-suc, lt-suc_self, eq-or-lt_of_le}
 use native.Mathlib.Omega.{arith}
@@ -33,14 +33,15 @@ module _ (s : Settings) (recording : List ℕ) (slot : ℕ) where
         rw place at (spread i (j - i) (omega arith))
 
     -- the slot lies between those of the first frame and the last, and few frames lie between
-    pub narrow : (n : ℕ) → frames_in s recording ≡ suc n → slot_of s recording 0 < slot → slot ≤ slot_of s recording n
-        → Bracket s recording slot (suc n - min (suc n) (slot_of s recording n - slot + 1)) (min (suc n) (slot - slot_of s recording 0))
-    narrow n count above under =
-        let ends = apart 0 n (omega arith) (omega arith) in
+    pub narrow : (count first last low high : ℕ) → count ≡ frames_in s recording → count ≢ 0 → first ≡ slot_of s recording 0
+        → last ≡ slot_of s recording (count - 1) → first < slot → slot ≤ last → low ≡ count - (last - slot + 1)
+        → high ≡ min count (slot - first) → Bracket s recording slot low high
+    narrow count first last low high all some at-first at-last above under is-low is-high =
+        let ends = apart 0 (count - 1) (omega arith) (omega arith) in
         record {
           ordered = omega arith;
           within = omega arith;
-          lower = λ i h. let far = apart i n (omega arith) (omega arith) in omega arith;
+          lower = λ i h. let far = apart i (count - 1) (omega arith) (omega arith) in omega arith;
           upper = λ i h k. let far = apart 0 i (omega arith) k in omega arith;
         }
 

@@ -1,59 +1,66 @@
 // The check of a pair.
 ghost use Rattle.std.specs.Prelude.{◌≡◌, ◌||◌};
-ghost use Rattle.aerials.specs.Tables.{or_else};
-ghost use Rattle.aerials.specs.Pair.{unfit, pair_cause};
+ghost use Rattle.aerials.specs.Causes.{check_number};
+ghost use Rattle.aerials.specs.Pair.{unfit, pair_cause, pair_check};
+ghost use Rattle.joiner.specs.Places.{frames_met};
 
 use crate::overlap::unlike;
-use crate::walk::{Faults, walk};
+use crate::recorded::Recorded;
+use crate::search::Ordered;
+use crate::walk::Faults;
+use aerials::PairCause;
 use buffers::frame_len;
 use code::Settings;
 
 // The most that a recording may have: 64 KiB.
 const LONGEST: usize = 65536;
 
-// Whether a recording is too long, or not a whole number of frames.
-fn unfit(s: Settings, recording: &[u8]) -> bool
-    ensures { result ≡ unfit s recording.now }
-{
-    if LONGEST < recording.len() {
-        return true;
+impl<'a> Recorded<'a> {
+    // Whether it is too long, or not a whole number of frames.
+    fn unfit(self) -> bool
+        ensures { result ≡ unfit self.entry.settings self.entry.bytes.now }
+    {
+        LONGEST < self.bytes.len() || self.bytes.len() % frame_len(self.settings) != 0
     }
-    recording.len() % frame_len(s) != 0
 }
 
-// The first of causes 4, 5 and 9 that a frame of either recording meets, 0 if there is none.
-fn frame_cause(a: Faults, b: Faults) -> u32
-    ensures { result
-        ≡ or_else (a.mark || b.mark) 4 (or_else (a.settings || b.settings) 5 (or_else (a.falling || b.falling) 9 0)) }
+// The first of causes 4, 5 and 9 that a frame of either recording meets, if one does.
+fn frames_met(a: Faults, b: Faults) -> Result<(), PairCause>
+    ensures { result ≡ frames_met (a.mark || b.mark) (a.settings || b.settings) (a.falling || b.falling) }
 {
-    if a.mark | b.mark {
-        return 4;
+    if a.mark || b.mark {
+        Err(PairCause::OtherMark)
+    } else if a.settings || b.settings {
+        Err(PairCause::OtherSettings)
+    } else if a.falling || b.falling {
+        Err(PairCause::NotRising)
+    } else {
+        Ok(())
     }
-    if a.settings | b.settings {
-        return 5;
-    }
-    if a.falling | b.falling {
-        return 9;
-    }
-    0
 }
 
-// The check of a pair: 0 where it is accepted, else the number of the first cause that holds, each looked for in both recordings.
-pub fn pair_cause(s: Settings, first: &[u8], second: &[u8]) -> u32
-    ensures { result ≡ pair_cause s first.now second.now }
+// The check of a pair: the first cause that holds, if one does, each looked for in both recordings.
+pub fn pair_cause(s: Settings, first: &[u8], second: &[u8]) -> Result<(), PairCause>
+    ensures cause { result ≡ pair_check s first.now second.now }
+    ensures number { check_number result ≡ pair_cause s first.now second.now }
 {
+    let one = Recorded {
+        settings: s,
+        bytes: first,
+    };
+    let two = Recorded {
+        settings: s,
+        bytes: second,
+    };
     if !s.accepted() {
-        return 1;
+        return Err(PairCause::BadSettings);
     }
-    if unfit(s, first) | unfit(s, second) {
-        return 2;
+    if one.unfit() || two.unfit() {
+        return Err(PairCause::BadLength);
     }
-    let found = frame_cause(walk(s, first), walk(s, second));
-    if found != 0 {
-        return found;
+    frames_met(one.faults(), two.faults())?;
+    if unlike(Ordered::new(s, first), Ordered::new(s, second)) {
+        return Err(PairCause::Unlike);
     }
-    if unlike(s, first, second) {
-        return 10;
-    }
-    0
+    Ok(())
 }

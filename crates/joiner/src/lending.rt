@@ -4,8 +4,7 @@ ghost use Rattle.aerials.specs.Pair.{pair_cause};
 ghost use Rattle.aerials.specs.Parts.{of_aerial, bytes_of, part_of, join_of};
 
 use crate::check::pair_cause;
-use crate::frame::frame_of;
-use crate::search::{below, stands_at};
+use crate::search::Ordered;
 use code::Settings;
 
 // Of a pair that is accepted: the first's frame of the slot, else the second's, else an empty part.
@@ -19,15 +18,15 @@ pub fn part<'a>(s: Settings, first: &'a [u8], second: &'a [u8], slot: u32) -> &'
         ≡ of_aerial (part_of s first.now second.now slot).whose first.entry.ref_ptr.1 second.entry.ref_ptr.1
         + (part_of s first.now second.now slot).start }
 {
-    let i = below(s, first, slot);
-    if stands_at(s, first, i, slot) {
-        return frame_of(s, first, i);
+    let one = Ordered::new(s, first);
+    let two = Ordered::new(s, second);
+    if let Some(n) = one.place(slot) {
+        one.recorded.frame(n)
+    } else if let Some(n) = two.place(slot) {
+        two.recorded.frame(n)
+    } else {
+        &first[0..0]
     }
-    let j = below(s, second, slot);
-    if stands_at(s, second, j, slot) {
-        return frame_of(s, second, j);
-    }
-    &first[0..0]
 }
 
 // Of any pair: an empty part for one that is refused.
@@ -40,8 +39,9 @@ pub fn join<'a>(s: Settings, first: &'a [u8], second: &'a [u8], slot: u32) -> &'
         ≡ of_aerial (join_of s first.now second.now slot).whose first.entry.ref_ptr.1 second.entry.ref_ptr.1
         + (join_of s first.now second.now slot).start }
 {
-    if pair_cause(s, first, second) != 0 {
-        return &first[0..0];
+    if pair_cause(s, first, second).is_ok() {
+        part(s, first, second, slot)
+    } else {
+        &first[0..0]
     }
-    part(s, first, second, slot)
 }

@@ -1,12 +1,11 @@
 // The joiner: the check of a pair of recordings, and the part that is lent for a slot. Document 02 §7.
 #![tactic(auto)]
 
-mod bytes;
 mod check;
-mod frame;
 mod lending;
 mod onward;
 mod overlap;
+mod recorded;
 mod search;
 mod walk;
 

@@ -1,37 +1,26 @@
 // Slots that both recordings have: whether a byte differs in one of them.
-ghost use Rattle.std.specs.Prelude.{◌≡◌, T};
-ghost use Rattle.code.specs.Settings.{accepted};
+ghost use Rattle.std.specs.Prelude.{◌≡◌};
 ghost use Rattle.aerials.specs.Pair.{unlike};
-ghost use Rattle.aerials.specs.Sound.{Rising};
 
-use crate::bytes::alike;
-use crate::frame::{frame_of, frames_in};
-use code::Settings;
-use frames::slot_of;
+use crate::search::Ordered;
 
 // Whether the frames of a slot that both have differ; both recordings are walked at once, the one behind moving on.
-pub(crate) fn unlike(s: Settings, first: &[u8], second: &[u8]) -> bool
-    requires { T (accepted s) × Rising s first.now × Rising s second.now }
-    ensures { result ≡ unlike s first.now second.now }
+pub(crate) fn unlike<'a>(first: Ordered<'a>, second: Ordered<'a>) -> bool
+    requires { second.recorded.settings ≡ first.recorded.settings }
+    ensures { result ≡ unlike first.entry.recorded.settings first.entry.recorded.bytes.now second.entry.recorded.bytes.now }
 {
-    let m = frames_in(s, first);
-    let n = frames_in(s, second);
+    let (a, b) = (first.recorded, second.recorded);
+    let (m, n) = (a.len(), b.len());
     let mut i: usize = 0;
     let mut j: usize = 0;
-    while i < m {
-        if n <= j {
-            return false;
-        }
-        let a = frame_of(s, first, i);
-        let b = frame_of(s, second, j);
-        let x = slot_of(a);
-        let y = slot_of(b);
+    while i < m && j < n {
+        let (x, y) = (a.slot(i), b.slot(j));
         if x < y {
             i += 1;
         } else if y < x {
             j += 1;
         } else {
-            if !alike(a, b) {
+            if a.frame(i) != b.frame(j) {
                 return true;
             }
             i += 1;

@@ -1,75 +1,96 @@
 // Where a slot stands in a recording, found by halving.
-ghost use Rattle.std.specs.Prelude.{◌≡◌, min};
-ghost use Rattle.aerials.specs.Pair.{has};
+ghost use Rattle.std.specs.Prelude.{◌≡◌};
 ghost use Rattle.aerials.specs.Parts.{below};
 ghost use Rattle.aerials.specs.Sound.{Rising};
+ghost use Rattle.aerials.specs.Next.{next_in};
 ghost use Rattle.joiner.specs.Halving.{Bracket};
+ghost use Rattle.joiner.specs.Places.{Rising-prop, place_in};
 
-use crate::frame::{frame_of, frames_in};
+use crate::recorded::Recorded;
 use code::Settings;
-use frames::slot_of;
 
-// The smaller of a count and a number of slots.
-fn at_most(count: usize, slots: u32) -> usize
-    ensures { result ≡ min count slots }
-{
-    if count < slots as usize {
-        return count;
-    }
-    slots as usize
+// A recording in which the slots rise from frame to frame.
+#[derive(Clone, Copy)]
+pub(crate) struct Ordered<'a> {
+    pub(crate) recorded: Recorded<'a>,
+    ghost rises: { Rising recorded.settings recorded.bytes.now } by { Rising-prop recorded.settings recorded.bytes.now },
 }
 
-// The frames between these two halved, until none is left: those before `low` stand for lower slots, those from `high` on do not.
-fn halve(s: Settings, recording: &[u8], slot: u32, low: usize, high: usize) -> usize
-    requires { Rising s recording.now × Bracket s recording.now slot low high }
-    ensures { result ≡ below s recording.now slot }
-{
-    let mut bottom = low;
-    let mut top = high;
-    while bottom < top {
-        let mid = bottom + (top - bottom) / 2;
-        let here = slot_of(frame_of(s, recording, mid));
-        if here == slot {
-            return mid;
+impl<'a> Ordered<'a> {
+    pub(crate) fn new(settings: Settings, bytes: &'a [u8]) -> Ordered<'a>
+        requires { Rising settings bytes.now }
+        ensures settings { result.recorded.settings ≡ settings }
+        ensures bytes { result.recorded.bytes ≡ bytes.entry }
+    {
+        Ordered {
+            recorded: Recorded { settings, bytes },
         }
-        if here < slot {
-            bottom = mid + 1;
+    }
+
+    // The frames between these two halved, until none is left: those before `low` stand for lower slots, those from `high` on do not.
+    fn halve(self, slot: u32, low: usize, high: usize) -> usize
+        requires { Bracket self.recorded.settings self.recorded.bytes.now slot low high }
+        ensures { result ≡ below self.entry.recorded.settings self.entry.recorded.bytes.now slot }
+    {
+        let mut bottom = low;
+        let mut top = high;
+        while bottom < top {
+            let middle = bottom + (top - bottom) / 2;
+            let here = self.recorded.slot(middle);
+            if here == slot {
+                return middle;
+            }
+            if here < slot {
+                bottom = middle + 1;
+            } else {
+                top = middle;
+            }
+        }
+        bottom
+    }
+
+    // How many frames stand for slots below this one. Slots rise by one at least from frame to frame, so as many frames as slots are
+    // missing lie between the first that may be the slot's and the last.
+    fn below(self, slot: u32) -> usize
+        ensures { result ≡ below self.entry.recorded.settings self.entry.recorded.bytes.now slot }
+    {
+        let count = self.recorded.len();
+        if count == 0 {
+            return 0;
+        }
+        let first = self.recorded.slot(0);
+        if slot <= first {
+            return 0;
+        }
+        let last = self.recorded.slot(count - 1);
+        if last < slot {
+            return count;
+        }
+        let low = count.saturating_sub((last - slot) as usize + 1);
+        self.halve(slot, low, count.min((slot - first) as usize))
+    }
+
+    // The number of the slot's frame, if it has one.
+    pub(crate) fn place(self, slot: u32) -> Option<usize>
+        ensures { result ≡ place_in self.entry.recorded.settings self.entry.recorded.bytes.now slot }
+    {
+        let n = self.below(slot);
+        if n < self.recorded.len() && self.recorded.slot(n) == slot {
+            Some(n)
         } else {
-            top = mid;
+            None
         }
     }
-    bottom
-}
 
-// How many frames of a recording stand for slots below this one. Slots rise by one at least from frame to frame, so as many frames as slots
-// are missing lie between the first that may be the slot's and the last.
-pub(crate) fn below(s: Settings, recording: &[u8], slot: u32) -> usize
-    requires { Rising s recording.now }
-    ensures { result ≡ below s recording.now slot }
-{
-    let count = frames_in(s, recording);
-    if count == 0 {
-        return 0;
+    // The next slot, from this one on, that it has.
+    pub(crate) fn next(self, slot: u32) -> Option<u32>
+        ensures { result ≡ next_in self.entry.recorded.settings self.entry.recorded.bytes.now slot }
+    {
+        let n = self.below(slot);
+        if n < self.recorded.len() {
+            Some(self.recorded.slot(n))
+        } else {
+            None
+        }
     }
-    let first = slot_of(frame_of(s, recording, 0));
-    if slot <= first {
-        return 0;
-    }
-    let last = slot_of(frame_of(s, recording, count - 1));
-    if last < slot {
-        return count;
-    }
-    let low = count - at_most(count, last - slot + 1);
-    halve(s, recording, slot, low, at_most(count, slot - first))
-}
-
-// Whether the frame behind those is that of the slot, so that the recording has it.
-pub(crate) fn stands_at(s: Settings, recording: &[u8], n: usize, slot: u32) -> bool
-    requires { Rising s recording.now × (n ≡ below s recording.now slot) }
-    ensures { result ≡ has s recording.now slot }
-{
-    if frames_in(s, recording) <= n {
-        return false;
-    }
-    slot_of(frame_of(s, recording, n)) == slot
 }

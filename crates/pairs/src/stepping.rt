@@ -21,17 +21,16 @@ pub fn step<'a>(
     ensures { outcome result rows.new message.new line.new
         ≡ pair_step_of p first.now second.now rows.old message.old line.old }
 {
-    let x = p.receiver;
-    let s = x.settings;
-    match next_slot(s, first, second, x.due) {
+    let s = p.receiver.settings;
+    match next_slot(s, first, second, p.receiver.due) {
+        Some(slot) => {
+            let frame = part(s, first, second, slot);
+            at_frame(p, frame, p.offset, rows, message, line)
+        }
         None => Progress {
             player: p,
             len: 0,
             over: true,
         },
-        Some(slot) => {
-            let frame = part(s, first, second, slot);
-            at_frame(p, frame, p.offset, rows, message, line)
-        }
     }
 }

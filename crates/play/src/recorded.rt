@@ -8,7 +8,6 @@ ghost use Rattle.player.proofs.StepsLeft.{steps_left};
 ghost use Rattle.pairplay.proofs.Left.{pair_left};
 
 use code::Settings;
-use pairplay::PairStart;
 use progress::{Player, Progress};
 use stops::Start;
 
@@ -63,11 +62,7 @@ impl<'a> Recorded for Two<'a> {
     ghost left = { λ r p. pair_left r.0.now r.1.now p };
 
     fn start(&self) -> Result<Option<Settings>, u32> {
-        match pairs::examine(self.0, self.1) {
-            PairStart::Empty => Ok(None),
-            PairStart::Stop(n) => Err(n),
-            PairStart::Play(s) => Ok(Some(s)),
-        }
+        Ok(pairs::examine(self.0, self.1)?)
     }
 
     fn play_on(&self, p: Player, rows: &mut [u8], message: &mut [u8], out: &mut [u8]) -> Progress {

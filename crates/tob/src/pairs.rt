@@ -10,5 +10,8 @@ use joiner::pair_cause;
 pub extern "C" fn tob_pair_cause(settings: &[u8; 5], first: &[u8], second: &[u8]) -> u32
     ensures { result ≡ pair_bytes settings.now first.now second.now }
 {
-    pair_cause(settings_at(settings, 0), first, second)
+    match pair_cause(settings_at(settings, 0), first, second) {
+        Ok(()) => 0,
+        Err(c) => u32::from(c),
+    }
 }

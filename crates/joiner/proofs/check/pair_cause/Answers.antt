@@ -1,114 +1,128 @@
 -- Each way out is a row of the table.
-use mathlib.Core.Path.{◌≡◌, sym, ap₂, ◌∙◌}
+use mathlib.Core.Path.{◌≡◌, sym, ap, ◌∙◌}
 use mathlib.Core.Bool.{Bool, true, false, ◌||◌}
 use mathlib.Core.List.{List}
-use mathlib.Core.Logic.{◌≢◌}
-use native.Mathlib.Omega.{arith}
 use Prim.Native.Nat.{ℕ}
-use Rattle.code.specs.declared.settings.Settings.{Settings}
-use Rattle.code.specs.Settings.{accepted}
+use Rattle.std.specs.Prelude.{Ok, Err}
+use Rattle.std.proofs.lemmas.Result.{err_from_is_err_and}
 use Rattle.protocol.proofs.LookUps.{neither}
-use Rattle.aerials.specs.Pair.{unfit, other_mark, other_settings, falling, unlike, pair_cause}
-use Rattle.aerials.specs.Tables.{or_else}
+use Rattle.code.specs.declared.settings.Settings.{Settings}
+use Rattle.aerials.specs.declared.PairCause.TheVariants.{Unlike}
+use Rattle.aerials.specs.Causes.{Check, check_number}
+use Rattle.aerials.specs.Pair.{unfit, other_mark, other_settings, falling, unlike, pair_cause, pair_check}
+use Rattle.aerials.proofs.CheckLaws.{check_numbered}
 use Rattle.aerials.proofs.PairLaws.{rising}
-use Rattle.joiner.proofs.Checking.{three, some_of_three, none_of_three}
+use Rattle.joiner.specs.declared.walk.Faults.{Faults}
+use Rattle.joiner.specs.Places.{frames_met}
+use Rattle.joiner.proofs.Checking.{met, by_settings, by_lengths, by_frames, clear, by_overlap}
 use Rattle.joiner.proofs.check.pair_cause.Goals as goal
+use Rattle.joiner.proofs.check.pair_cause.Goals.{then-unfit-via-then-unfit, then-unfit-via-else-unfit+then-unfit-2}
 
-three_by : {a b d x y z : Bool} → a ≡ x → b ≡ y → d ≡ z → three a b d 0 ≡ three x y z 0
-three_by e f g = rw (e, f, g)
+numbered : (s : Settings) (x y : List ℕ) (r : Check) → r ≡ pair_check s x y → check_number r ≡ pair_cause s x y
+numbered s x y r is = ap check_number is ∙ check_numbered s x y
 
--- whether a length is wrong
-abbrev lengths : Settings → List ℕ → List ℕ → Bool
-lengths s x y = unfit s x || unfit s y
+either : (a b : Bool) → a ≡ true → a || b ≡ true
+either a b e = rw e
 
--- what the frames meet
-abbrev marks : Settings → List ℕ → List ℕ → Bool
-marks s x y = other_mark s x || other_mark s y
+or_other : (a b : Bool) → a ≡ false → b ≡ true → a || b ≡ true
+or_other a b e f = rw (e, f)
 
-abbrev settings : Settings → List ℕ → List ℕ → Bool
-settings s x y = other_settings s x || other_settings s y
+both : (a b : Bool) → a ≡ false → b ≡ false → a || b ≡ false
+both a b e f = rw (e, f)
 
-abbrev slots : Settings → List ℕ → List ℕ → Bool
-slots s x y = falling s x || falling s y
-
-abbrev met : Settings → List ℕ → List ℕ → ℕ
-met s x y = three (marks s x y) (settings s x y) (slots s x y) 0
-
-module _ (s : Settings) (x y : List ℕ) where
-  refused_by_lengths : accepted s ≡ true → lengths s x y ≡ true → 2 ≡ pair_cause s x y
-  unfolding pair_cause
-  refused_by_lengths settled long = rw (settled, long)
-
-  refused_by_frames : accepted s ≡ true → lengths s x y ≡ false → met s x y ≢ 0 → met s x y ≡ pair_cause s x y
-  unfolding pair_cause
-  refused_by_frames settled fitting some =
-      rw (settled, fitting) (sym (some_of_three (marks s x y) (settings s x y) (slots s x y) _ some))
-
-  -- they meet nothing
-  clear_frames : met s x y ≡ 0 → (marks s x y ≡ false) × (settings s x y ≡ false) × (slots s x y ≡ false)
-  clear_frames none = none_of_three (marks s x y) (settings s x y) (slots s x y) none
-
-  left : (b : Bool) → accepted s ≡ true → lengths s x y ≡ false → met s x y ≡ 0 → b ≡ unlike s x y
-      → or_else b 10 0 ≡ pair_cause s x y
-  unfolding pair_cause
-  left b settled fitting none differ =
-      let clear = clear_frames none in
-      rw (settled, fitting, clear.0, clear.1, clear.2, ← differ)
+met_by : (s : Settings) (x y : List ℕ) (a b : Faults) (r : Check)
+    → r ≡ frames_met (a.mark || b.mark) (a.settings || b.settings) (a.falling || b.falling) → a.mark ≡ other_mark s x → b.mark ≡ other_mark s y
+    → a.settings ≡ other_settings s x → b.settings ≡ other_settings s y → a.falling ≡ falling s x → b.falling ≡ falling s y → r ≡ met s x y
+met_by s x y a b r is p q u v w z = rw (← p, ← q, ← u, ← v, ← w, ← z) is
 
 pub returns-then-not-accepted : goal.returns-then-not-accepted
-unfolding pair_cause
 returns-then-not-accepted c =
-    rw (sym c.accepted.ensures ∙ c.if-not-accepted.true)
+    let is = by_settings c.args.s c.args.first.now c.args.second.now (sym c.accepted.ensures ∙ c.if-not-accepted.true) in
+    record { cause = is; number = numbered _ _ _ _ is }
 
 pub returns-then-unfit : goal.returns-then-unfit
 returns-then-unfit c =
-    refused_by_lengths c.args.s c.args.first.now c.args.second.now (sym c.accepted.ensures ∙ c.if-not-accepted.false)
-    (sym (ap₂ ◌||◌ c.unfit.ensures c.unfit-2.ensures) ∙ c.if-unfit.true)
+    let s : Settings = c.args.s in
+    let x : List ℕ = c.args.first.now in
+    let y : List ℕ = c.args.second.now in
+    let long : unfit s x || unfit s y ≡ true =
+    elim c.then-unfit.branch [
+      | then-unfit-via-then-unfit w ↦ either _ _ (sym c.unfit.ensures ∙ w.if-unfit.true)
+      | then-unfit-via-else-unfit+then-unfit-2 w ↦
+          or_other _ _ (sym c.unfit.ensures ∙ w.if-unfit.false) (sym w.unfit-else-unfit.ensures ∙ w.if-unfit-2.true)
+    ] in
+    let is = by_lengths s x y (sym c.accepted.ensures ∙ c.if-not-accepted.false) long in
+    record { cause = is; number = numbered s x y _ is }
 
-pub returns-then-found-ne0 : goal.returns-then-found-ne0
-returns-then-found-ne0 c =
-    let one = c.walk.ensures in
-    let two = c.walk-2.ensures in
-    let found : c.frame_cause-found.result ≡ met c.args.s c.args.first.now c.args.second.now
-    = c.frame_cause-found.ensures
-    ∙ three_by (ap₂ ◌||◌ one.mark two.mark) (ap₂ ◌||◌ one.settings two.settings) (ap₂ ◌||◌ one.falling two.falling) in
-    found
-    ∙ refused_by_frames c.args.s c.args.first.now c.args.second.now (sym c.accepted.ensures ∙ c.if-not-accepted.false)
-    (sym (ap₂ ◌||◌ c.unfit.ensures c.unfit-2.ensures) ∙ c.if-unfit.false)
-    (λ z. absurd (omega (arith, found, c.if-found-ne0.true)))
+pub returns-in_err-frames_met : goal.returns-in_err-frames_met
+returns-in_err-frames_met c =
+    let s : Settings = c.args.s in
+    let x : List ℕ = c.args.first.now in
+    let y : List ℕ = c.args.second.now in
+    let settled = sym c.accepted.ensures ∙ c.if-not-accepted.false in
+    let fit = both _ _ (sym c.unfit.ensures ∙ c.if-unfit.false) (sym c.unfit-else-unfit.ensures ∙ c.if-unfit-2.false) in
+    let a = c.faults.ensures in
+    let b = c.faults-2.ensures in
+    let found : c.frames_met.result ≡ met s x y = met_by s x y _ _ _ c.frames_met.ensures a.mark b.mark a.settings b.settings a.falling b.falling in
+    let p = err_from_is_err_and c.from_residual.result c.from_residual.ensures.1 in
+    let is : c.from_residual.result ≡ pair_check s x y =
+    p.1 ∙ ap Err p.2 ∙ by_frames s x y settled fit c.in_err-frames_met.field-0.0 (sym found ∙ c.in_err-frames_met.was) in
+    record { cause = is; number = numbered s x y _ is }
 
-pub unlike-requires : goal.unlike-requires
-unlike-requires c =
-    let one = c.walk.ensures in
-    let two = c.walk-2.ensures in
-    let found : c.frame_cause-found.result ≡ met c.args.s c.args.first.now c.args.second.now
-    = c.frame_cause-found.ensures
-    ∙ three_by (ap₂ ◌||◌ one.mark two.mark) (ap₂ ◌||◌ one.settings two.settings) (ap₂ ◌||◌ one.falling two.falling) in
-    let clear = clear_frames c.args.s c.args.first.now c.args.second.now (sym found ∙ c.if-found-ne0.false) in
-    let rise = neither (falling c.args.s c.args.first.now) (falling c.args.s c.args.second.now) clear.2 in (
-      rw (sym c.accepted.ensures ∙ c.if-not-accepted.false) tt,
-      rising c.args.s c.args.first.now rise.0,
-      rising c.args.s c.args.second.now rise.1,
-    )
+pub new-requires : goal.new-requires
+new-requires c =
+    let s : Settings = c.args.s in
+    let x : List ℕ = c.args.first.now in
+    let y : List ℕ = c.args.second.now in
+    let settled = sym c.accepted.ensures ∙ c.if-not-accepted.false in
+    let fit = both _ _ (sym c.unfit.ensures ∙ c.if-unfit.false) (sym c.unfit-else-unfit.ensures ∙ c.if-unfit-2.false) in
+    let a = c.faults.ensures in
+    let b = c.faults-2.ensures in
+    let found : c.frames_met.result ≡ met s x y = met_by s x y _ _ _ c.frames_met.ensures a.mark b.mark a.settings b.settings a.falling b.falling in
+    let none : met s x y ≡ Ok tt = sym found ∙ c.in_ok-frames_met.was in
+    rising s x (neither (falling s x) (falling s y) (clear s x y settled fit none).2).0
+
+pub new-requires-2 : goal.new-requires-2
+new-requires-2 c =
+    let s : Settings = c.args.s in
+    let x : List ℕ = c.args.first.now in
+    let y : List ℕ = c.args.second.now in
+    let settled = sym c.accepted.ensures ∙ c.if-not-accepted.false in
+    let fit = both _ _ (sym c.unfit.ensures ∙ c.if-unfit.false) (sym c.unfit-else-unfit.ensures ∙ c.if-unfit-2.false) in
+    let a = c.faults.ensures in
+    let b = c.faults-2.ensures in
+    let found : c.frames_met.result ≡ met s x y = met_by s x y _ _ _ c.frames_met.ensures a.mark b.mark a.settings b.settings a.falling b.falling in
+    let none : met s x y ≡ Ok tt = sym found ∙ c.in_ok-frames_met.was in
+    rising s y (neither (falling s x) (falling s y) (clear s x y settled fit none).2).1
 
 pub returns-then-unlike : goal.returns-then-unlike
 returns-then-unlike c =
-    let one = c.walk.ensures in
-    let two = c.walk-2.ensures in
-    let found : c.frame_cause-found.result ≡ met c.args.s c.args.first.now c.args.second.now
-    = c.frame_cause-found.ensures
-    ∙ three_by (ap₂ ◌||◌ one.mark two.mark) (ap₂ ◌||◌ one.settings two.settings) (ap₂ ◌||◌ one.falling two.falling) in
-    left c.args.s c.args.first.now c.args.second.now true (sym c.accepted.ensures ∙ c.if-not-accepted.false)
-    (sym (ap₂ ◌||◌ c.unfit.ensures c.unfit-2.ensures) ∙ c.if-unfit.false) (sym found ∙ c.if-found-ne0.false)
-    (sym c.if-unlike.true ∙ c.unlike.ensures)
+    let s : Settings = c.args.s in
+    let x : List ℕ = c.args.first.now in
+    let y : List ℕ = c.args.second.now in
+    let settled = sym c.accepted.ensures ∙ c.if-not-accepted.false in
+    let fit = both _ _ (sym c.unfit.ensures ∙ c.if-unfit.false) (sym c.unfit-else-unfit.ensures ∙ c.if-unfit-2.false) in
+    let a = c.faults.ensures in
+    let b = c.faults-2.ensures in
+    let found : c.frames_met.result ≡ met s x y = met_by s x y _ _ _ c.frames_met.ensures a.mark b.mark a.settings b.settings a.falling b.falling in
+    let none : met s x y ≡ Ok tt = sym found ∙ c.in_ok-frames_met.was in
+    let seen : c.unlike.result ≡ unlike s x y =
+    rw (c.new.ensures.settings, c.new.ensures.bytes, c.new-2.ensures.bytes) at c.unlike.ensures in
+    let is : Err Unlike ≡ pair_check s x y = by_overlap s x y settled fit none true (sym seen ∙ c.if-unlike.true) in
+    record { cause = is; number = numbered s x y _ is }
 
 pub returns : goal.returns
 returns c =
-    let one = c.walk.ensures in
-    let two = c.walk-2.ensures in
-    let found : c.frame_cause-found.result ≡ met c.args.s c.args.first.now c.args.second.now
-    = c.frame_cause-found.ensures
-    ∙ three_by (ap₂ ◌||◌ one.mark two.mark) (ap₂ ◌||◌ one.settings two.settings) (ap₂ ◌||◌ one.falling two.falling) in
-    left c.args.s c.args.first.now c.args.second.now false (sym c.accepted.ensures ∙ c.if-not-accepted.false)
-    (sym (ap₂ ◌||◌ c.unfit.ensures c.unfit-2.ensures) ∙ c.if-unfit.false) (sym found ∙ c.if-found-ne0.false)
-    (sym c.if-unlike.false ∙ c.unlike.ensures)
+    let s : Settings = c.args.s in
+    let x : List ℕ = c.args.first.now in
+    let y : List ℕ = c.args.second.now in
+    let settled = sym c.accepted.ensures ∙ c.if-not-accepted.false in
+    let fit = both _ _ (sym c.unfit.ensures ∙ c.if-unfit.false) (sym c.unfit-else-unfit.ensures ∙ c.if-unfit-2.false) in
+    let a = c.faults.ensures in
+    let b = c.faults-2.ensures in
+    let found : c.frames_met.result ≡ met s x y = met_by s x y _ _ _ c.frames_met.ensures a.mark b.mark a.settings b.settings a.falling b.falling in
+    let none : met s x y ≡ Ok tt = sym found ∙ c.in_ok-frames_met.was in
+    let seen : c.unlike.result ≡ unlike s x y =
+    rw (c.new.ensures.settings, c.new.ensures.bytes, c.new-2.ensures.bytes) at c.unlike.ensures in
+    let is : Ok tt ≡ pair_check s x y = by_overlap s x y settled fit none false (sym seen ∙ c.if-unlike.false) in
+    record { cause = is; number = numbered s x y _ is }

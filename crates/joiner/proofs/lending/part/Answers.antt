@@ -1,76 +1,86 @@
 -- The first's frame, the second's, or neither.
-use mathlib.Core.Path.{refl, sym, ap, ◌∙◌}
+use mathlib.Core.Path.{◌≡◌, refl, sym, ap, ◌∙◌}
+use mathlib.Core.Bool.{false}
+use mathlib.Core.List.{List}
 use native.Mathlib.Omega.{arith}
 use Prim.Native.Nat.{ℕ, ◌+◌, ◌*◌}
+use Rattle.std.specs.Prelude.{Some}
+use Rattle.code.specs.declared.settings.Settings.{Settings}
 use Rattle.protocol.specs.Lengths.{frame_len}
-use Rattle.aerials.specs.Pair.{frame_of}
+use Rattle.aerials.specs.Pair.{frame_of, has}
 use Rattle.aerials.specs.Sound.{Rising}
 use Rattle.aerials.proofs.PairLaws.{checked}
-use Rattle.aerials.proofs.PartLaws.{stands_below, part_first, part_second, of_none, first_bytes, second_bytes, no_bytes}
+use Rattle.aerials.proofs.PartLaws.{part_first, part_second, of_none, first_bytes, second_bytes, no_bytes}
+use Rattle.joiner.specs.Places.{place_in}
+use Rattle.joiner.proofs.Places.{place_some, place_none, place_within}
 use Rattle.joiner.proofs.lending.part.Goals as goal
 
-pub below-i-requires : goal.below-i-requires
+pub new-one-requires : goal.new-one-requires
 unfolding Rising
-below-i-requires c =
-    let rising-first : Rising c.args.s c.args.first.now = (checked c.args.s c.args.first.now c.args.second.now c.requires).one.rising in
-    rising-first
+new-one-requires c = (checked c.args.s c.args.first.now c.args.second.now c.requires).one.rising
 
-pub stands_at-requires : goal.stands_at-requires
+pub new-two-requires : goal.new-two-requires
 unfolding Rising
-stands_at-requires c =
-    let rising-first : Rising c.args.s c.args.first.now = (checked c.args.s c.args.first.now c.args.second.now c.requires).one.rising in
-    (rising-first, c.below-i.ensures)
+new-two-requires c = (checked c.args.s c.args.first.now c.args.second.now c.requires).two.rising
 
-pub frame_of-requires : goal.frame_of-requires
-unfolding Rising
-frame_of-requires c =
-    let rising-first : Rising c.args.s c.args.first.now = (checked c.args.s c.args.first.now c.args.second.now c.requires).one.rising in
-    let there = sym c.stands_at.ensures ∙ c.if-stands_at.true in
-    rw c.below-i.ensures (stands_below c.args.s c.args.first.now (rising-first) c.args.slot there).0
+pub frame-requires : goal.frame-requires
+frame-requires c = place_within _ _ c.args.slot c.new-one.result.rises _ (sym c.place.ensures ∙ c.in-Some.is)
 
-pub returns-then-stands_at : goal.returns-then-stands_at
-returns-then-stands_at c =
-    let there = sym c.stands_at.ensures ∙ c.if-stands_at.true in
-    rw (part_first c.args.s c.args.first.now c.args.second.now c.args.slot there) (record {
-      bytes = c.frame_of.ensures.bytes ∙ ap (frame_of c.args.s c.args.first.now) c.below-i.ensures
-          ∙ sym (first_bytes c.args.s c.args.first.now c.args.second.now c.args.slot);
-      whose = c.frame_of.ensures.whose;
-      start = c.frame_of.ensures.start ∙ ap (λ (n : ℕ). c.args.first.ref_ptr.1 + n * frame_len c.args.s) c.below-i.ensures;
+pub frame-requires-in-Some-place : goal.frame-requires-in-Some-place
+frame-requires-in-Some-place c = place_within _ _ c.args.slot c.new-two.result.rises _ (sym c.place-in_default.ensures ∙ c.in-Some-place.is)
+
+pub returns-in-Some : goal.returns-in-Some
+returns-in-Some c =
+    let s : Settings = c.args.s in
+    let first : List ℕ = c.args.first.now in
+    let second : List ℕ = c.args.second.now in
+    let own = c.new-one.ensures in
+    let found : place_in s first c.args.slot ≡ Some c.in-Some.n =
+    rw (own.settings, own.bytes) at (sym c.place.ensures ∙ c.in-Some.is) in
+    let (had, place) = place_some s first c.args.slot c.in-Some.n found in
+    let bytes : c.frame.result.now ≡ frame_of s first c.in-Some.n = rw (own.settings, own.bytes) at c.frame.ensures.bytes in
+    let start : c.frame.result.ref_ptr.1 ≡ c.args.first.ref_ptr.1 + c.in-Some.n * frame_len s =
+    rw (own.settings, own.bytes) at c.frame.ensures.start in
+    let whose : c.frame.result.ref_ptr.0 ≡ c.args.first.ref_ptr.0 = rw own.bytes at c.frame.ensures.whose in
+    rw (part_first s first second c.args.slot had) (record {
+      bytes = bytes ∙ ap (frame_of s first) place ∙ sym (first_bytes s first second c.args.slot);
+      whose = whose;
+      start = start ∙ ap (λ (n : ℕ). c.args.first.ref_ptr.1 + n * frame_len s) place;
     })
 
-pub below-j-requires : goal.below-j-requires
-unfolding Rising
-below-j-requires c =
-    let rising-second : Rising c.args.s c.args.second.now = (checked c.args.s c.args.first.now c.args.second.now c.requires).two.rising in
-    rising-second
-
-pub stands_at-requires-2 : goal.stands_at-requires-2
-unfolding Rising
-stands_at-requires-2 c =
-    let rising-second : Rising c.args.s c.args.second.now = (checked c.args.s c.args.first.now c.args.second.now c.requires).two.rising in
-    (rising-second, c.below-j.ensures)
-
-pub frame_of-requires-then-stands_at-2 : goal.frame_of-requires-then-stands_at-2
-unfolding Rising
-frame_of-requires-then-stands_at-2 c =
-    let rising-second : Rising c.args.s c.args.second.now = (checked c.args.s c.args.first.now c.args.second.now c.requires).two.rising in
-    let there = sym c.stands_at-2.ensures ∙ c.if-stands_at-2.true in
-    rw c.below-j.ensures (stands_below c.args.s c.args.second.now (rising-second) c.args.slot there).0
-
-pub returns-then-stands_at-2 : goal.returns-then-stands_at-2
-returns-then-stands_at-2 c =
-    let none = sym c.stands_at.ensures ∙ c.if-stands_at.false in
-    let there = sym c.stands_at-2.ensures ∙ c.if-stands_at-2.true in
-    rw (part_second c.args.s c.args.first.now c.args.second.now c.args.slot none there) (record {
-      bytes = c.frame_of-then-stands_at-2.ensures.bytes ∙ ap (frame_of c.args.s c.args.second.now) c.below-j.ensures
-          ∙ sym (second_bytes c.args.s c.args.first.now c.args.second.now c.args.slot);
-      whose = c.frame_of-then-stands_at-2.ensures.whose;
-      start = c.frame_of-then-stands_at-2.ensures.start ∙ ap (λ (n : ℕ). c.args.second.ref_ptr.1 + n * frame_len c.args.s) c.below-j.ensures;
+pub returns-in-Some-place : goal.returns-in-Some-place
+returns-in-Some-place c =
+    let s : Settings = c.args.s in
+    let first : List ℕ = c.args.first.now in
+    let second : List ℕ = c.args.second.now in
+    let own = c.new-one.ensures in
+    let other = c.new-two.ensures in
+    let none : has s first c.args.slot ≡ false =
+    place_none s first c.args.slot (rw (own.settings, own.bytes) at (sym c.place.ensures ∙ c.in_default.is)) in
+    let found : place_in s second c.args.slot ≡ Some c.in-Some-place.n =
+    rw (other.settings, other.bytes) at (sym c.place-in_default.ensures ∙ c.in-Some-place.is) in
+    let (had, place) = place_some s second c.args.slot c.in-Some-place.n found in
+    let bytes : c.frame-in-Some-place.result.now ≡ frame_of s second c.in-Some-place.n =
+    rw (other.settings, other.bytes) at c.frame-in-Some-place.ensures.bytes in
+    let start : c.frame-in-Some-place.result.ref_ptr.1 ≡ c.args.second.ref_ptr.1 + c.in-Some-place.n * frame_len s =
+    rw (other.settings, other.bytes) at c.frame-in-Some-place.ensures.start in
+    let whose : c.frame-in-Some-place.result.ref_ptr.0 ≡ c.args.second.ref_ptr.0 = rw other.bytes at c.frame-in-Some-place.ensures.whose in
+    rw (part_second s first second c.args.slot none had) (record {
+      bytes = bytes ∙ ap (frame_of s second) place ∙ sym (second_bytes s first second c.args.slot);
+      whose = whose;
+      start = start ∙ ap (λ (n : ℕ). c.args.second.ref_ptr.1 + n * frame_len s) place;
     })
 
-pub returns : goal.returns
-returns c =
-    let first-none = sym c.stands_at.ensures ∙ c.if-stands_at.false in
-    let second_none = sym c.stands_at-2.ensures ∙ c.if-stands_at-2.false in
-    rw (of_none c.args.s c.args.first.now c.args.second.now c.args.slot first-none second_none)
-    (record { bytes = sym (no_bytes c.args.first.now c.args.second.now); whose = refl; start = omega arith })
+pub returns-in_default-place : goal.returns-in_default-place
+returns-in_default-place c =
+    let s : Settings = c.args.s in
+    let first : List ℕ = c.args.first.now in
+    let second : List ℕ = c.args.second.now in
+    let own = c.new-one.ensures in
+    let other = c.new-two.ensures in
+    let none : has s first c.args.slot ≡ false =
+    place_none s first c.args.slot (rw (own.settings, own.bytes) at (sym c.place.ensures ∙ c.in_default.is)) in
+    let neither : has s second c.args.slot ≡ false =
+    place_none s second c.args.slot (rw (other.settings, other.bytes) at (sym c.place-in_default.ensures ∙ c.in_default-place.is)) in
+    rw (of_none s first second c.args.slot none neither)
+    (record { bytes = sym (no_bytes first second); whose = refl; start = omega arith })

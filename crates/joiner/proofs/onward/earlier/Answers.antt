@@ -5,7 +5,7 @@ use mathlib.Core.Bool.{Bool, true, false}
 use native.Mathlib.Omega.{arith}
 use Prim.Native.Nat.{ℕ, min}
 use lib.Dec.{ltb}
-use Rattle.std.specs.Prelude.{Option, Some, None}
+use Rattle.std.specs.Prelude.{Option, Some}
 use Rattle.aerials.specs.Next.{earlier}
 use Rattle.joiner.proofs.onward.earlier.Goals as goal
 use Rattle.joiner.proofs.onward.earlier.Goals.{in_default-via-in-Some+in_default, in_default-via-in_default}

@@ -1,21 +1,23 @@
 -- Slots rise in both.
-use mathlib.Core.Path.{ap₂, ◌∙◌}
+use mathlib.Core.Path.{◌≡◌, ap₂, ◌∙◌}
 use Rattle.aerials.specs.Sound.{Rising}
-use Rattle.aerials.specs.Next.{earlier, next_of}
+use Rattle.aerials.specs.Next.{next_in, earlier, next_of}
 use Rattle.aerials.proofs.PairLaws.{checked}
 use Rattle.joiner.proofs.onward.next_slot.Goals as goal
 
-pub next_in-requires : goal.next_in-requires
+pub new-one-requires : goal.new-one-requires
 unfolding Rising
-next_in-requires c =
-    (checked c.args.s c.args.first.now c.args.second.now c.requires).one.rising
+new-one-requires c = (checked c.args.s c.args.first.now c.args.second.now c.requires).one.rising
 
-pub next_in-requires-2 : goal.next_in-requires-2
+pub new-two-requires : goal.new-two-requires
 unfolding Rising
-next_in-requires-2 c =
-    (checked c.args.s c.args.first.now c.args.second.now c.requires).two.rising
+new-two-requires c = (checked c.args.s c.args.first.now c.args.second.now c.requires).two.rising
 
 pub returns : goal.returns
 unfolding next_of
 returns c =
-    c.earlier.ensures ∙ ap₂ earlier c.next_in.ensures c.next_in-2.ensures
+    let one : c.next.result ≡ next_in c.args.s c.args.first.now c.args.slot =
+    rw (c.new-one.ensures.settings, c.new-one.ensures.bytes) at c.next.ensures in
+    let two : c.next-2.result ≡ next_in c.args.s c.args.second.now c.args.slot =
+    rw (c.new-two.ensures.settings, c.new-two.ensures.bytes) at c.next-2.ensures in
+    c.earlier.ensures ∙ ap₂ earlier one two
