@@ -1,2 +1,3 @@
 -- The laws that the functions' proofs cite.
 pub mod Unlike
+pub mod Looks

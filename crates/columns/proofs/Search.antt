@@ -1,24 +1,15 @@
 -- The search for a pivot: the first row that can be one.
 use mathlib.Core.Path.{◌≡◌, refl, ◌∙◌, subst⁻¹}
 use mathlib.Core.Bool.{and-false}
-use mathlib.Core.Logic.{◌≢◌, ◌⊎◌, ⊎_elim}
+use mathlib.Core.Logic.{⊎_elim}
 use Prim.Native.Nat.{ℕ, zero, suc, ◌+◌, ◌≤◌, ◌<◌}
 use native.Mathlib.Nat.{eq-or-lt_of_le, le_refl}
 use native.Mathlib.Omega.{arith}
-use lib.ListN.{length, get_or}
 use borrow.Author.Tests.{eq-eqb, ne_eqb}
 use Rattle.std.specs.Prelude.{Option, None, Some, MatchOption}
 use Rattle.elimination.specs.declared.reduced.Reduced.{Reduced}
 use Rattle.elimination.specs.Elimination.{free, cell, pivot_from}
-use Rattle.elimination.proofs.PivotSearch.{is_free, is_pivot}
-
--- row r is free and not 0 at position p, so it can be its pivot; a look at it tells the number of roles as well
-abbrev pub Fit : Reduced → ℕ → ℕ → Type 0
-Fit x p r = (length x.roles ≡ 16) × (get_or x.roles r 0 ≡ 16) × (cell x.rows r p ≢ 0)
-
--- or it cannot
-abbrev pub Unfit : Reduced → ℕ → ℕ → Type 0
-Unfit x p r = (length x.roles ≡ 16) × ((get_or x.roles r 0 ≢ 16) ⊎ (cell x.rows r p ≡ 0))
+use Rattle.elimination.proofs.PivotSearch.{Fit, Unfit, is_free, is_pivot}
 
 module _ (x : Reduced) (p : ℕ) where
   -- a row that can be the pivot ends the search

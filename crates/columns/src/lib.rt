@@ -2,12 +2,12 @@
 #![tactic(auto)]
 
 ghost use Rattle.std.specs.Prelude.{◌≡◌, ◌≤◌, ◌<◌, MatchOption, eqb, length, get_or};
-ghost use Rattle.galois.specs.Byte.{quotient, Reciprocals};
+ghost use Rattle.galois.specs.Byte.{quotient};
 ghost use Rattle.galois.specs.Table.{table};
 ghost use Rattle.elimination.specs.Elimination.{pivot_from, cleared, column_step, left_flag};
 
 use elimination::Reduced;
-use gf256::Gf256;
+use gf256::{Gf256, ReciprocalTable};
 use multiples::{quarters, row_by, row_times};
 
 // The first row below k that is free and not 0 at position p.
@@ -23,22 +23,28 @@ fn pivot_row(reduced: &Reduced, p: usize, k: usize) -> Option<usize>
 }
 
 // A row divided by its entry at position p; one that is 1 there stays as it is, and one that is 0 there becomes zeros.
-fn scaled(row: [u8; 16], p: usize, reciprocals: &[u8; 256]) -> [u8; 16]
-    requires { (p < 16) × Reciprocals reciprocals.now }
+fn scaled(row: [u8; 16], p: usize, reciprocals: &ReciprocalTable) -> [u8; 16]
+    requires { p < 16 }
     ensures { result ≡ table 16 (λ j. quotient (get_or row j 0) (get_or row p 0)) }
 {
     if row[p] == 1 {
         return row;
     }
-    match Gf256(row[p]).reciprocal_in(reciprocals) {
+    match reciprocals.reciprocal(Gf256(row[p])) {
         None => [0; 16],
         Some(inverse) => row_times(row, inverse.0),
     }
 }
 
 // Row r is scaled to 1 at position p, which is cleared from every other of the first k rows.
-fn clear_column(rows: &mut [[u8; 16]; 16], r: usize, p: usize, k: usize, reciprocals: &[u8; 256])
-    requires { (r < k) × (p < 16) × (k ≤ 16) × Reciprocals reciprocals.now }
+fn clear_column(
+    rows: &mut [[u8; 16]; 16],
+    r: usize,
+    p: usize,
+    k: usize,
+    reciprocals: &ReciprocalTable,
+)
+    requires { (r < k) × (p < 16) × (k ≤ 16) }
     ensures { rows.new ≡ cleared k rows.old r p }
 {
     let pivot = scaled(rows[r], p, reciprocals);
@@ -55,9 +61,9 @@ pub fn column_step(
     flag: u8,
     p: usize,
     k: usize,
-    reciprocals: &[u8; 256],
+    reciprocals: &ReciprocalTable,
 ) -> u8
-    requires { (p < 16) × (k ≤ 16) × Reciprocals reciprocals.now }
+    requires { (p < 16) × (k ≤ 16) }
     ensures step { reduced.new ≡ column_step k (eqb flag 1) p reduced.old }
     ensures left { result ≡ left_flag k (eqb flag 1) p reduced.old flag }
 {

@@ -1,25 +1,17 @@
 // The receiver's decision on one message: for each source symbol one elimination, and one answer for all lanes.
 #![tactic(auto)]
 
-ghost use Rattle.std.specs.Prelude.{cond, ◌≡◌, ◌<◌, Ok, ltb, length};
+ghost use Rattle.std.specs.Prelude.{◌≡◌, ◌<◌, Ok, length};
 ghost use Rattle.protocol.specs.Lengths.{message_len};
 ghost use Rattle.protocol.specs.Verdict.{verdict, buffer_of};
 ghost use Rattle.places.specs.Places.{Ready};
 
 use buffers::clear;
 use code::Settings;
+use elimination::Grade;
+use gf256::ReciprocalTable;
 use protocol::Told;
 use symbols::write_symbol;
-
-// The larger of two grades.
-fn worse(a: u8, b: u8) -> u8
-    ensures { result ≡ cond (ltb a b) b a }
-{
-    if a < b {
-        return b;
-    }
-    a
-}
 
 // What the receiver says of message t, once the slots below due are reported. The buffer gets the message when it is whole, else
 // zeros.
@@ -29,31 +21,24 @@ pub fn decided(s: Settings, rows: &[u8], due: usize, t: usize, message: &mut [u8
     ensures message { message.new ≡ buffer_of s rows.now due t (Ok result) }
 {
     let matrix = encoder::systematic(s);
-    let reciprocals = gf256::reciprocals();
+    let reciprocals = ReciprocalTable::new();
     let lanes = s.lanes as usize;
-    let mut worst: u8 = 0;
-    let mut i: usize = 0;
-    while i < s.sources() {
+    let mut worst = Grade::Whole;
+    for i in 0..s.sources() {
         let start = i * lanes;
-        let grade = write_symbol(
-            s,
-            rows,
-            due,
-            t,
-            i,
-            matrix,
-            &reciprocals,
-            &mut message[start..start + lanes],
-        );
-        worst = worse(worst, grade);
-        i += 1;
+        let symbol = &mut message[start..start + lanes];
+        let grade = write_symbol(s, rows, due, t, i, matrix, &reciprocals, symbol);
+        worst = worst.max(grade);
     }
-    if worst == 0 {
-        return Told::Whole;
+    match worst {
+        Grade::Whole => Told::Whole,
+        Grade::Lost => {
+            clear(message);
+            Told::Lost
+        }
+        Grade::Clash => {
+            clear(message);
+            Told::Clash
+        }
     }
-    clear(message);
-    if worst == 1 {
-        return Told::Lost;
-    }
-    Told::Clash
 }

@@ -119,6 +119,7 @@ pub fn reciprocals() -> [u8; 256]
 }
 
 // The table of reciprocals, made once and lent to all that divide.
+#[derive(Drop)]
 pub struct ReciprocalTable {
     pub entries: [u8; 256],
     pub ghost listed: { Reciprocals entries } by { listed_prop 256 reciprocal entries },

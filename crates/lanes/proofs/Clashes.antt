@@ -21,12 +21,9 @@ use Rattle.elimination.proofs.Terms.{free_differs}
 use Rattle.shares.specs.Shares.{lane_byte}
 use Rattle.shares.proofs.Shares.{Shared}
 use Rattle.clashes.specs.Clashes.{sum_clash, sums_clash}
-use Rattle.clashes.proofs.Unlike.{unlike}
+use Rattle.clashes.proofs.Unlike.{unlike, unlike_differs}
 use Rattle.lanes.specs.Lanes.{Own, clash_at, lanes_clash}
 use Rattle.lanes.proofs.Combined.{weighted_combined}
-
-pub unlike_differs : (a b : ℕ) → T (unlike a b) → a ≢ b
-unlike_differs a b t e = subst (λ (e : Bool). T (not e)) (eq-eqb a b e) t
 
 module _ (s : Settings) (x : Reduced) (flags places bytes : List ℕ) where
   -- at a known position

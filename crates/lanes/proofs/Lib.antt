@@ -2,3 +2,4 @@
 pub mod Combined
 pub mod Clashes
 pub mod Said
+pub mod Gathered

@@ -5,6 +5,8 @@ use Rattle.galois.specs.Byte.{◌⊗◌}
 use Rattle.galois.specs.Table.{table}
 use Rattle.code.specs.declared.settings.Settings.{Settings}
 use Rattle.code.specs.Settings.{k_of}
+use Rattle.elimination.specs.declared.grade.Grade.{Grade}
+use Rattle.elimination.specs.declared.grade.Grade.TheVariants.{Whole, Lost, Clash}
 use Rattle.elimination.specs.declared.reduced.Reduced.{Reduced}
 use Rattle.elimination.specs.Elimination.{free, cell, combined, clashes, differs, known_in}
 use Rattle.shares.specs.Shares.{lane_byte}
@@ -31,16 +33,16 @@ lanes_clash s x flags places bytes = any s.lanes (λ v. clashes s x (known_in s 
 
 -- an answer's grade, and the L bytes of the symbol
 pub record Answer : Type 0 where
-  pub grade : ℕ
+  pub grade : Grade
   pub symbol : List ℕ
 
--- 2 if some lane clashes, else 1 if the symbol is lost, else 0 and the shared bytes; what was lent stays where the grade is not 0
+-- a clash if some lane clashes, else lost if the symbol is, else whole and the shared bytes; what was lent stays where it is not whole
 unfoldable pub lanes_said : Settings → Reduced → List ℕ → List ℕ → List ℕ → ℕ → List ℕ → Answer
 lanes_said s x flags places bytes i out =
     elim (lanes_clash s x flags places bytes) [
-      | true ↦ record { grade = 2; symbol = out }
+      | true ↦ record { grade = Clash; symbol = out }
       | false ↦ elim (differs s x i) [
-        | true ↦ record { grade = 1; symbol = out }
-        | false ↦ record { grade = 0; symbol = combined_lanes s x places bytes i }
+        | true ↦ record { grade = Lost; symbol = out }
+        | false ↦ record { grade = Whole; symbol = combined_lanes s x places bytes i }
       ]
     ]

@@ -5,46 +5,40 @@ mod symbol;
 
 ghost use Rattle.std.specs.Prelude.{◌≡◌, ◌<◌, length};
 ghost use Rattle.code.specs.Settings.{k_of};
-ghost use Rattle.shares.specs.Shares.{Held};
 ghost use Rattle.clashes.specs.Clashes.{ParityOnly};
 ghost use Rattle.lanes.specs.Lanes.{Own, lanes_said};
 
 use clashes::{clashing, differing};
-use code::Settings;
-use shares::gather;
+use elimination::{Grade, Reduced};
+use shares::{Codewords, gather};
 use symbol::{write_own, write_sum};
 
-// What elimination says of position i, where no source has a flag: 2 if some lane clashes at a position whose flag is 1, else 1 if the
-// symbol is lost, else 0, and `out` gets the shared bytes. Of the codewords, received or not, `bytes` has symbol p of lane v at place p
-// plus v.
+// What elimination says of position i, where no source has a flag: a clash if some lane clashes at a position whose flag is 1, else
+// lost if the symbol is, else whole, and `out` gets the shared bytes.
 pub fn answer(
-    s: Settings,
-    rows: &[[u8; 16]; 16],
-    roles: &[u8; 16],
+    words: &Codewords,
+    reduced: &Reduced,
     flags: &[u8; 16],
-    places: &[usize; 16],
-    bytes: &[u8],
     i: usize,
     out: &mut [u8],
-) -> u8
-    requires { Held s places.now bytes.now × (i < k_of s) × (length roles.now ≡ 16) × (length out.old ≡ s.lanes)
-        × Own s (record { rows = rows.now; roles = roles.now }) i × ParityOnly s flags.now }
+) -> Grade
+    requires { (i < k_of words.now.s) × (length out.old ≡ words.now.s.lanes) × Own words.now.s reduced.now i
+        × ParityOnly words.now.s flags.now }
     ensures { record { grade = result; symbol = out.new }
-        ≡ lanes_said s (record { rows = rows.entry.now; roles = roles.now }) flags.now places.now
-        bytes.now i out.old }
+        ≡ lanes_said words.now.s reduced.now flags.now words.now.places.now words.now.bytes.now i out.old }
 {
     let mut pairs = [[0u8; 64]; 32];
-    gather(s, roles, places, bytes, &mut pairs);
-    if clashing(s, rows, flags, places, bytes, &pairs) {
-        return 2;
+    gather(words, &reduced.roles, &mut pairs);
+    if clashing(words, &reduced.rows, flags, &pairs) {
+        return Grade::Clash;
     }
-    if roles[i] == i as u8 {
-        write_own(s, places, bytes, i, out);
-        return 0;
+    if reduced.roles[i] as usize == i {
+        write_own(words, i, out);
+        return Grade::Whole;
     }
-    if differing(s, rows, roles, i) {
-        return 1;
+    if differing(words.s, reduced, i) {
+        return Grade::Lost;
     }
-    write_sum(s, rows, &pairs, i, out);
-    0
+    write_sum(words.s, &reduced.rows, &pairs, i, out);
+    Grade::Whole
 }

@@ -4,31 +4,19 @@ ghost use Rattle.galois.specs.Table.{table};
 ghost use Rattle.gathering.specs.Pairs.{pairs_of, Paired};
 ghost use Rattle.vectors.specs.Weighted.{weighted_of};
 ghost use Rattle.code.specs.Settings.{accepted, k_of, n_of};
-ghost use Rattle.shares.specs.Shares.{Held, lane_byte};
+ghost use Rattle.shares.specs.Shares.{lane_byte};
 
 use code::Settings;
-use shares::sum_at;
-
-// Copies bytes over as many.
-fn copy(out: &mut [u8], bytes: &[u8])
-    requires { length bytes.now ≡ length out.old }
-    ensures { out.new ≡ bytes.now }
-{
-    let mut v: usize = 0;
-    while v < out.len() {
-        out[v] = bytes[v];
-        v += 1;
-    }
-}
+use shares::{Codewords, sum_at};
 
 // The L bytes at position i.
-pub(crate) fn write_own(s: Settings, places: &[usize; 16], bytes: &[u8], i: usize, out: &mut [u8])
-    requires { Held s places.now bytes.now × (i < n_of s) × (length out.old ≡ s.lanes) }
-    ensures { out.new ≡ table s.lanes (λ v. lane_byte s places.now bytes.now v i) }
+pub(crate) fn write_own(words: &Codewords, i: usize, out: &mut [u8])
+    requires { (i < n_of words.now.s) × (length out.old ≡ words.now.s.lanes) }
+    ensures { out.new ≡ table words.now.s.lanes (λ v. lane_byte words.now.s words.now.places.now words.now.bytes.now v i) }
 {
-    let start = places[i];
-    let lanes = s.lanes as usize;
-    copy(out, &bytes[start..start + lanes]);
+    let start = words.places[i];
+    let lanes = words.s.lanes as usize;
+    out.copy_from_slice(&words.bytes[start..start + lanes]);
 }
 
 // The first L lanes of the weighted sum of the vectors at position i.
@@ -44,6 +32,5 @@ pub(crate) fn write_sum(
         ≡ table s.lanes (λ v. get_or (weighted_of rows.now i pairs.now (pairs_of (k_of s))) v 0) }
 {
     let sum = sum_at(s, rows, pairs, i);
-    let lanes = s.lanes as usize;
-    copy(out, &sum[..lanes]);
+    out.copy_from_slice(&sum[..s.lanes as usize]);
 }

@@ -11,6 +11,8 @@ ghost use Rattle.protocol.specs.Lengths.{receiver_len};
 use buffers::{receiver_len, row_len};
 use code::Settings;
 use drawing::Random;
+use elimination::{Grade, Symbol};
+use gf256::ReciprocalTable;
 use output::Output;
 use std::io::{self, BufWriter, Write};
 
@@ -40,7 +42,7 @@ fn told_in(
     i: usize,
     rows: &mut [u8],
     symbol: &mut [u8],
-) -> u8
+) -> Grade
     requires { T (accepted s)
         × (s.lanes ≡ 1)
         × (length rows.old ≡ receiver_len s)
@@ -49,19 +51,22 @@ fn told_in(
 {
     arrive(s, flags, bytes, rows);
     let matrix = encoder::systematic(s);
-    let reciprocals = gf256::reciprocals();
+    let reciprocals = ReciprocalTable::new();
     symbols::write_symbol(s, rows, s.symbols(), i, i, matrix, &reciprocals, symbol)
 }
 
-// That, and the byte of a symbol that is whole. There is room for the rows of any settings.
-fn told(s: Settings, flags: &[u8; 16], bytes: &[u8; 16], i: usize) -> (u8, u8)
+// That, with the byte of a symbol that is whole. There is room for the rows of any settings.
+fn told(s: Settings, flags: &[u8; 16], bytes: &[u8; 16], i: usize) -> Symbol
     requires { T (accepted s) × (s.lanes ≡ 1) × (i < k_of s) }
 {
     let mut rows = [0; 32800];
     let end = receiver_len(s);
     let mut symbol = [0];
-    let grade = told_in(s, flags, bytes, i, &mut rows[0..end], &mut symbol);
-    (grade, symbol[0])
+    match told_in(s, flags, bytes, i, &mut rows[0..end], &mut symbol) {
+        Grade::Clash => Symbol::Clash,
+        Grade::Lost => Symbol::Lost,
+        Grade::Whole => Symbol::Whole(symbol[0]),
+    }
 }
 
 impl<W: Write> Test<W> {
@@ -72,12 +77,12 @@ impl<W: Write> Test<W> {
         let i = self.random.below(s.sources());
         let flags = word::flags(&mut self.random);
         let bytes = word::arrived(s, j, &mut self.random);
-        let (grade, byte) = told(s, &flags, &bytes, i);
+        let symbol = told(s, &flags, &bytes, i);
         write!(self.out, "{} {} {} {j} {i} ", s.delay, s.burst, s.scattered);
-        match grade {
-            2 => self.out.put(b"clash\n"),
-            1 => self.out.put(b"lost\n"),
-            _ => writeln!(self.out, "whole {byte}"),
+        match symbol {
+            Symbol::Clash => self.out.put(b"clash\n"),
+            Symbol::Lost => self.out.put(b"lost\n"),
+            Symbol::Whole(byte) => writeln!(self.out, "whole {byte}"),
         }
     }
 

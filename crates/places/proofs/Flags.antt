@@ -1,11 +1,11 @@
 -- The flags of the word's positions: those of all of them, and those of the parity positions.
 use mathlib.Core.Path.{◌≡◌, ◌∙◌}
-use mathlib.Core.Bool.{cond}
+use mathlib.Core.Bool.{cond, ◌&&◌}
 use mathlib.Core.List.{List}
 use Prim.Native.Nat.{ℕ, ◌+◌, ◌≤◌, ◌<◌}
 use native.Mathlib.Omega.{arith}
 use borrow.Author.Tests.{lt-ltb, le-ltb}
-use lib.Dec.{ltb}
+use lib.Dec.{eqb, ltb}
 use lib.ListN.{length, get_or}
 use Rattle.galois.proofs.ByIndex.{length-table, get_or-table}
 use Rattle.code.specs.declared.settings.Settings.{Settings}
@@ -18,6 +18,10 @@ use Rattle.places.proofs.Filled.{up_to, up_below}
 -- the flag at a parity position, and 0 at a source
 abbrev pub parity_flag : Settings → List ℕ → ℕ → ℕ
 parity_flag s flags q = cond (ltb q (k_of s)) 0 (get_or flags q 0)
+
+-- the role of a row at the start, by the flag of its position
+abbrev pub first_role : Settings → List ℕ → ℕ → ℕ
+first_role s flags p = cond (ltb p (k_of s) && eqb (get_or flags p 0) 1) p 16
 
 pub parity_length : (s : Settings) (flags : List ℕ) → length (parity_flags s flags) ≡ 16
 unfolding parity_flags

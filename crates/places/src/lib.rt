@@ -4,4 +4,4 @@
 mod known;
 mod starts;
 
-pub use starts::locate;
+pub use starts::{Located, locate};

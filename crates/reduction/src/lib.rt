@@ -3,22 +3,21 @@
 #![tactic(auto)]
 
 ghost use Rattle.std.specs.Prelude.{◌≡◌};
-ghost use Rattle.galois.specs.Byte.{Reciprocals};
 ghost use Rattle.elimination.specs.Elimination.{reduced_from, left_from};
 
 use code::Settings;
 use columns::column_step;
 use elimination::Reduced;
+use gf256::ReciprocalTable;
 
 // Elimination over the parity positions whose flag is 1, on a copy of the matrix and its roles, which is returned; the flag of each
 // position that becomes a pivot is cleared. For settings that are not accepted nothing is done.
 pub fn eliminate(
     s: Settings,
-    reciprocals: &[u8; 256],
+    reciprocals: &ReciprocalTable,
     start: Reduced,
     flags: &mut [u8; 16],
 ) -> Reduced
-    requires { Reciprocals reciprocals.now }
     ensures reduced { result ≡ reduced_from s start flags.old }
     ensures left { flags.new ≡ left_from s start flags.old }
 {

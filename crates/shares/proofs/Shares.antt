@@ -17,7 +17,7 @@ use Rattle.gathering.proofs.Gathered.{gathered_paired, gathered_vector}
 use Rattle.code.specs.declared.settings.Settings.{Settings}
 use Rattle.code.specs.Settings.{k_of, n_of}
 use Rattle.code.proofs.Shape.{Shape}
-use Rattle.shares.specs.Shares.{Held, lane_byte, role_of, row_byte, source_at, source_of}
+use Rattle.shares.specs.Shares.{lane_byte, role_of, row_byte, source_at, source_of}
 
 -- the bytes of a lane are those from the places on, and 0 outside the word
 module _ (s : Settings) (places bytes : List ℕ) (v p : ℕ) where
@@ -86,9 +86,10 @@ module _ (s : Settings) (places : List ℕ) (p : ℕ) where
       ⊎_elim (λ h. subst P (source_past h) (past h)) (λ h. subst P (source_inside h) (inside h)) (le_or_lt (n_of s) p)
 
   -- it lies within the bytes
-  pub source_held : (bytes : List ℕ) → Shape s → Held s places bytes → (source_at s places p).start + s.lanes ≤ length bytes
-  source_held bytes h held =
-      source_each (λ x. x.start + s.lanes ≤ length bytes) (held.inside p) (λ _. held.inside 0 (omega arith))
+  pub source_held : (bytes : List ℕ) → Shape s → ((p : ℕ) → p < n_of s → get_or places p 0 + s.lanes ≤ length bytes)
+      → (source_at s places p).start + s.lanes ≤ length bytes
+  source_held bytes h inside =
+      source_each (λ x. x.start + s.lanes ≤ length bytes) (inside p) (λ _. inside 0 (omega arith))
 
   -- and has the bytes of the lanes
   source_byte : (bytes : List ℕ) → ((q : ℕ) → get_or bytes q 0 < 256) → (v : ℕ) → byte_of bytes (source_at s places p) v ≡ lane_byte s places bytes v p

@@ -1,13 +1,8 @@
 -- The bytes of the lanes at the positions of the pivots. The L bytes of symbol p stand from its place on, a byte for each lane.
-use Rattle.std.specs.Prelude.{cond, List, ℕ, ◌+◌, ◌≤◌, ◌<◌, T, ltb, length, get_or}
+use Rattle.std.specs.Prelude.{cond, List, ℕ, ◌+◌, ltb, get_or}
 use Rattle.gathering.specs.declared.Source.{Source}
 use Rattle.code.specs.declared.settings.Settings.{Settings}
-use Rattle.code.specs.Settings.{accepted, k_of, n_of}
-
--- what an answer asks: accepted settings, and L bytes from the place of each of the n symbols on
-pub record Held (s : Settings) (places bytes : List ℕ) : Type 0 where
-  pub settings : T (accepted s)
-  pub inside : (p : ℕ) → p < n_of s → get_or places p 0 + s.lanes ≤ length bytes
+use Rattle.code.specs.Settings.{k_of, n_of}
 
 -- the bytes of lane v by position, and 0 outside the word
 unfoldable pub lane_byte : Settings → List ℕ → List ℕ → ℕ → ℕ → ℕ

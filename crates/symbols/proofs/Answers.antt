@@ -11,6 +11,8 @@ use Rattle.galois.specs.Bounded.{any}
 use Rattle.galois.proofs.ByIndex.{get_or-table}
 use Rattle.galois.proofs.Cases.{is_false, some_any, any-one, any_none, any_same}
 use Rattle.code.specs.declared.settings.Settings.{Settings}
+use Rattle.elimination.specs.declared.grade.Grade.{Grade}
+use Rattle.elimination.specs.declared.grade.Grade.TheVariants.{Whole, Lost, Clash}
 use Rattle.elimination.specs.declared.lane.Symbol.TheVariants as symbol
 use Rattle.elimination.specs.declared.reduced.Reduced.{Reduced}
 use Rattle.elimination.specs.Elimination.{combined, clashes, differs, symbol_of, known_in}
@@ -79,47 +81,50 @@ module _ (s : Settings) (rows : List ℕ) (due t i : ℕ) (x : Reduced) (flags p
   unfolding lanes_grade
   grade_by c l ec el = sym (ap₂ grade (sym all-clash ∙ ec) el)
 
-  pub told : (r : ℕ) (out bytes : List ℕ) → answers r bytes ≡ lanes_said s x flags places rows i out → Told s rows due t i r bytes
+  pub told : (r : Grade) (out bytes : List ℕ) → answers r bytes ≡ lanes_said s x flags places rows i out → Told s rows due t i r bytes
   unfolding grade
   told r out bytes e = go (lanes_clash s x flags places rows) (differs s x i) refl refl
     where
       -- the answer's grade and bytes, by its case
-      by : (m : ℕ) (l : List ℕ) → answers m l ≡ lanes_said s x flags places rows i out → (r ≡ m) × (bytes ≡ l)
+      by : (m : Grade) (l : List ℕ) → answers m l ≡ lanes_said s x flags places rows i out → (r ≡ m) × (bytes ≡ l)
       by m l case = (ap (λ (a : Answer). a.grade) (e ∙ sym case), ap (λ (a : Answer). a.symbol) (e ∙ sym case))
 
       go : (c d : Bool) → lanes_clash s x flags places rows ≡ c → differs s x i ≡ d → Told s rows due t i r bytes
       go true d c _ =
-          let is = by 2 out (said_clash s x flags places rows i out c) in
+          let is = by Clash out (said_clash s x flags places rows i out c) in
           record {
             graded = is.0 ∙ grade_by true (any s.lanes (λ v. is_lost (symbol_said s rows due t i v))) c refl;
-            shared = λ zero. absurd (omega arith);
+            shared = λ whole. absurd (let other : ◌≡◌ {A = Grade} Clash Whole = sym is.0 ∙ whole in cc);
           }
       go false true c d =
-          let is = by 1 out (said_lost s x flags places rows i out c d) in
-          record { graded = is.0 ∙ grade_by false true c (all-lost c d); shared = λ zero. absurd (omega arith) }
+          let is = by Lost out (said_lost s x flags places rows i out c d) in
+          record {
+            graded = is.0 ∙ grade_by false true c (all-lost c d);
+            shared = λ whole. absurd (let other : ◌≡◌ {A = Grade} Lost Whole = sym is.0 ∙ whole in cc);
+          }
       go false false c d =
-          let is = by 0 (combined_lanes s x places rows i) (said_whole s x flags places rows i out c d) in
+          let is = by Whole (combined_lanes s x places rows i) (said_whole s x flags places rows i out c d) in
           record {
             graded = is.0 ∙ grade_by false false c (none_lost c d);
-            shared = λ zero v h. ap (λ (l : List ℕ). get_or l v 0) is.1 ∙ whole_byte_lem c d v h;
+            shared = λ whole v h. ap (λ (l : List ℕ). get_or l v 0) is.1 ∙ whole_byte_lem c d v h;
           }
 
-  -- where the grade is not 0, the bytes are those that were lent
-  pub kept : (r : ℕ) (out bytes : List ℕ) → answers r bytes ≡ lanes_said s x flags places rows i out → r ≢ 0 → bytes ≡ out
+  -- where the symbol is not whole, the bytes are those that were lent
+  pub kept : (r : Grade) (out bytes : List ℕ) → answers r bytes ≡ lanes_said s x flags places rows i out → r ≢ Whole → bytes ≡ out
   kept r out bytes e h = go (lanes_clash s x flags places rows) (differs s x i) refl refl
     where
       -- the answer's bytes, where they are those
-      by : (m : ℕ) → answers m out ≡ lanes_said s x flags places rows i out → bytes ≡ out
+      by : (m : Grade) → answers m out ≡ lanes_said s x flags places rows i out → bytes ≡ out
       by m case = ap (λ (a : Answer). a.symbol) (e ∙ sym case)
 
       go : (c d : Bool) → lanes_clash s x flags places rows ≡ c → differs s x i ≡ d → bytes ≡ out
-      go true d c _ = by 2 (said_clash s x flags places rows i out c)
-      go false true c d = by 1 (said_lost s x flags places rows i out c d)
+      go true d c _ = by Clash (said_clash s x flags places rows i out c)
+      go false true c d = by Lost (said_lost s x flags places rows i out c d)
       go false false c d =
-          let zero : r ≡ 0 = ap (λ (a : Answer). a.grade) (e ∙ sym (said_whole s x flags places rows i out c d)) in
-          absurd (h zero)
+          let whole : r ≡ Whole = ap (λ (a : Answer). a.grade) (e ∙ sym (said_whole s x flags places rows i out c d)) in
+          absurd (h whole)
 
   -- both
-  pub told_and_kept : (r : ℕ) (out bytes : List ℕ) → answers r bytes ≡ lanes_said s x flags places rows i out
-      → Told s rows due t i r bytes × (r ≢ 0 → bytes ≡ out)
+  pub told_and_kept : (r : Grade) (out bytes : List ℕ) → answers r bytes ≡ lanes_said s x flags places rows i out
+      → Told s rows due t i r bytes × (r ≢ Whole → bytes ≡ out)
   told_and_kept r out bytes e = (told r out bytes e, kept r out bytes e)

@@ -12,51 +12,57 @@ use Rattle.elimination.specs.Elimination.{known_in}
 use Rattle.elimination.proofs.Terms.{known_on, known_off}
 use Rattle.clashes.specs.Clashes.{ParityOnly, sum_clash, sums_clash}
 use Rattle.clashes.proofs.clashing.Goals as goal
-use Rattle.clashes.proofs.clashing.Goals.{then-flags-q-eq1+else-clashing_at, else-flags-q-eq1}
+use Rattle.clashes.proofs.clashing.Goals.{else-flags-q-eq1-via-then-flags-q-eq1+else-clashing_at}
+use Rattle.clashes.proofs.clashing.Goals.{else-flags-q-eq1-via-else-flags-q-eq1}
 
 pub loop-q-init : goal.loop-q-init
 unfolding ParityOnly
 loop-q-init c =
-    let h = shape c.args.s c.requires.0.settings in (
-      h,
-      λ p source t.
-          let nought = c.requires.2 p (omega arith) in
-          let known : Bool = known_in c.args.s c.args.flags.now p in
-          subst T (known_off c.args.s c.args.flags.now p (λ on. omega arith))
-          (and_left known (sum_clash c.args.s c.args.rows.now c.args.pairs.now c.args.places.now c.args.bytes.now p) t),
-    )
+    let words = c.args.words.now in
+    λ p source t.
+    let nought = c.requires.1 p (omega arith) in
+    subst T (known_off words.s c.args.flags.now p (λ on. omega arith))
+    (and_left (known_in words.s c.args.flags.now p)
+    (sum_clash words.s c.args.rows.now c.args.pairs.now words.places.now words.bytes.now p) t)
+
+pub bounds-flags-q : goal.bounds-flags-q
+bounds-flags-q c = omega (arith, shape c.args.words.now.s c.args.words.now.settings)
 
 pub clashing_at-requires : goal.clashing_at-requires
-clashing_at-requires c =
-    (c.requires.0, c.requires.1, omega arith)
+clashing_at-requires c = (c.requires.0, omega arith)
 
 pub returns-then-clashing_at : goal.returns-then-clashing_at
 unfolding sums_clash
 returns-then-clashing_at c =
-    let known : ℕ → Bool = known_in c.args.s c.args.flags.now in
-    let clash : ℕ → Bool = sum_clash c.args.s c.args.rows.now c.args.pairs.now c.args.places.now c.args.bytes.now in
+    let words = c.args.words.now in
+    let q : ℕ = c.loop-q.q in
+    let known : ℕ → Bool = known_in words.s c.args.flags.now in
+    let clash : ℕ → Bool = sum_clash words.s c.args.rows.now c.args.pairs.now words.places.now words.bytes.now in
     sym
-    (any-one (n_of c.args.s) (λ q. known q && clash q) c.loop-q.q (omega arith)
-    (both_pass (known c.loop-q.q) (clash c.loop-q.q) (subst⁻¹ T (known_on c.args.s c.args.flags.now c.loop-q.q (omega arith) (omega arith)) tt)
+    (any-one (n_of words.s) (λ q. known q && clash q) q (omega arith)
+    (both_pass (known q) (clash q) (subst⁻¹ T (known_on words.s c.args.flags.now q (omega arith) (omega arith)) tt)
     (subst⁻¹ T (sym c.clashing_at.ensures ∙ c.if-clashing_at.true) tt)))
 
 pub loop-q-preserved : goal.loop-q-preserved
 loop-q-preserved c =
-    let known : ℕ → Bool = known_in c.args.s c.args.flags.now in
-    let clash : ℕ → Bool = sum_clash c.args.s c.args.rows.now c.args.pairs.now c.args.places.now c.args.bytes.now in (
-      c.loop-q.invariant.0,
-      below_more (λ p. T (known p && clash p) → ⊥) c.loop-q.q c.loop-q.invariant.1
-          (elim c.if-flags-q-eq1.branch [
-            | then-flags-q-eq1+else-clashing_at w ↦ λ t.
-                subst T (sym w.clashing_at.ensures ∙ w.if-clashing_at.false) (and_right (known c.loop-q.q) (clash c.loop-q.q) t)
-            | else-flags-q-eq1 w ↦ λ t.
-                subst T (known_off c.args.s c.args.flags.now c.loop-q.q (λ on. omega arith)) (and_left (known c.loop-q.q) (clash c.loop-q.q) t)
-          ]),
-    )
+    let words = c.args.words.now in
+    let q : ℕ = c.loop-q.q in
+    let known : ℕ → Bool = known_in words.s c.args.flags.now in
+    let clash : ℕ → Bool = sum_clash words.s c.args.rows.now c.args.pairs.now words.places.now words.bytes.now in
+    below_more (λ p. T (known p && clash p) → ⊥) q c.loop-q.invariant
+    (elim c.else-flags-q-eq1.branch [
+      | else-flags-q-eq1-via-then-flags-q-eq1+else-clashing_at w ↦ λ t.
+          subst T (sym w.clashing_at.ensures ∙ w.if-clashing_at.false) (and_right (known q) (clash q) t)
+      | else-flags-q-eq1-via-else-flags-q-eq1 w ↦ λ t.
+          subst T (known_off words.s c.args.flags.now q (λ on. omega arith)) (and_left (known q) (clash q) t)
+    ])
 
 pub returns : goal.returns
 unfolding sums_clash
 returns c =
+    let words = c.args.words.now in
     sym
-    (any_none (n_of c.args.s) (λ q. known_in c.args.s c.args.flags.now q && sum_clash c.args.s c.args.rows.now c.args.pairs.now c.args.places.now c.args.bytes.now q)
-    (λ p h. c.loop-q.invariant.1 p (omega arith)))
+    (any_none (n_of words.s)
+    (λ q. known_in words.s c.args.flags.now q
+    && sum_clash words.s c.args.rows.now c.args.pairs.now words.places.now words.bytes.now q)
+    (λ p h. c.loop-q.invariant p (omega arith)))

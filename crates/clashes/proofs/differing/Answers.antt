@@ -1,47 +1,19 @@
--- The loop has passed no row that differs.
-use borrow.Author.Count.{below_none, below_more}
-use mathlib.Core.Path.{sym}
-use native.Mathlib.Omega.{arith}
-use lib.Dec.{T}
-use Rattle.galois.proofs.Cases.{any-one, any_none}
+-- The rows are looked through for one that differs.
+use Rattle.std.proofs.Common.{refl, arith, rules, tests}
+use Rattle.std.proofs.lemmas.Iterator.{cases_from_any, YieldsList-from_range}
+use Rattle.std.proofs.lemmas.List.{get_or_read}
 use Rattle.code.specs.Settings.{k_of}
-use Rattle.elimination.specs.Elimination.{cell, free, differs}
-use Rattle.elimination.proofs.PivotSearch.{is_free, is_pivot}
-use Rattle.elimination.proofs.Pivots.{test_differs}
-use Rattle.elimination.proofs.Terms.{both, free_differs, test_passes, test_off}
+use Rattle.elimination.specs.Elimination.{cell}
+use Rattle.elimination.proofs.PivotSearch.{Fit, Unfit}
+use Rattle.clashes.proofs.Looks.{differs_any}
 use Rattle.clashes.proofs.differing.Goals as goal
-use Rattle.clashes.proofs.differing.Goals.{then-roles-r-eq16+else-rows-r-ne0, else-roles-r-eq16}
-
-pub loop-r-init : goal.loop-r-init
-loop-r-init c =
-    (omega arith, below_none _)
-
-pub returns-then-rows-r-ne0 : goal.returns-then-rows-r-ne0
-unfolding differs cell
-returns-then-rows-r-ne0 c =
-    let x = both c.args.rows.now c.args.roles.now in
-    sym
-    (any-one (k_of c.args.s) (free_differs x c.args.i) c.loop-r.r (omega arith)
-    (test_passes (free x.roles c.loop-r.r) (cell x.rows c.loop-r.r c.args.i) 0
-    (is_free x c.args.i c.loop-r.r (omega arith) (omega arith)) (λ zero. omega arith)))
-
-pub loop-r-preserved : goal.loop-r-preserved
-unfolding cell
-loop-r-preserved c =
-    let x = both c.args.rows.now c.args.roles.now in
-    let f = free x.roles c.loop-r.r in
-    let e = cell x.rows c.loop-r.r c.args.i in (
-      omega arith,
-      below_more (λ q. T (free_differs x c.args.i q) → ⊥) c.loop-r.r c.loop-r.invariant.1
-          (elim c.if-roles-r-eq16.branch [
-            | then-roles-r-eq16+else-rows-r-ne0 w ↦ λ t. test_differs f e 0 t (omega arith)
-            | else-roles-r-eq16 w ↦ λ t. test_off f e 0 (is_pivot x c.args.i c.loop-r.r (omega arith) (λ same. omega arith)) t
-          ]),
-    )
 
 pub returns : goal.returns
-unfolding differs
+unfolding cell
 returns c =
-    sym
-    (any_none (k_of c.args.s) (free_differs (both c.args.rows.now c.args.roles.now) c.args.i)
-    (λ q h. c.loop-r.invariant.1 q (omega arith)))
+    let x = c.args.reduced.now in
+    differs_any c.args.s x c.args.i c.requires.1 c.any.result
+    (cases_from_any _ _ _ (Fit x c.args.i) (Unfit x c.args.i) c.any.ensures.ran
+    (YieldsList-from_range 0 c.sources.result (k_of c.args.s) refl (omega arith))
+    (λ r q called. grind (arith, tests, get_or_read))
+    (λ r q called. (search rules, grind (arith, tests, get_or_read))))

@@ -3,7 +3,8 @@ use Rattle.std.proofs.Common.{arith, rules, tests}
 use Rattle.std.proofs.lemmas.Iterator.{first_from_Range}
 use Rattle.std.proofs.lemmas.List.{get_or_read}
 use Rattle.elimination.specs.Elimination.{cell}
-use Rattle.columns.proofs.Search.{Fit, Unfit, first_found}
+use Rattle.elimination.proofs.PivotSearch.{Fit, Unfit}
+use Rattle.columns.proofs.Search.{first_found}
 use Rattle.columns.proofs.pivot_row.Goals as goal
 
 pub returns : goal.returns

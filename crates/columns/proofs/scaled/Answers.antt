@@ -15,9 +15,9 @@ returns-then-row-p-eq1 c =
 
 pub returns-in-None : goal.returns-in-None
 returns-in-None c =
-    row_zeros c.args.row _ (sym c.reciprocal_in.ensures ∙ ap answered c.in-None.is)
+    row_zeros c.args.row _ (sym c.reciprocal.ensures ∙ ap answered c.in-None.is)
 
 pub returns-in-Some : goal.returns-in-Some
 returns-in-Some c =
     c.row_times.ensures
-    ∙ row_divided c.args.row _ _ (sym c.reciprocal_in.ensures ∙ ap answered c.in-Some.is)
+    ∙ row_divided c.args.row _ _ (sym c.reciprocal.ensures ∙ ap answered c.in-Some.is)

@@ -1,112 +1,90 @@
 -- Each way out is one case of the answer.
-use mathlib.Core.Path.{◌≡◌, sym, ap, ◌∙◌, subst⁻¹}
+use mathlib.Core.Path.{◌≡◌, sym, ap, ◌∙◌}
 use Prim.Native.Nat.{ℕ, ◌<◌}
 use native.Mathlib.Omega.{arith}
 use lib.ListN.{get_or}
-use Rattle.gathering.specs.Pairs.{pairs_of, Paired}
 use Rattle.gathering.proofs.PairLaws.{blank_wide}
-use Rattle.code.specs.Settings.{k_of}
-use Rattle.code.proofs.Shape.{Shape, shape}
+use Rattle.code.proofs.Shape.{shape}
+use Rattle.elimination.specs.declared.grade.Grade.TheVariants.{Whole}
 use Rattle.elimination.proofs.PivotSearch.{get_d_default}
-use Rattle.elimination.proofs.Terms.{both}
-use Rattle.shares.proofs.Shares.{all-paired, all-shared, Shared}
-use Rattle.lanes.specs.Lanes.{lanes_clash}
-use Rattle.lanes.proofs.Clashes.{clash_sums, own_differs}
+use Rattle.lanes.proofs.Clashes.{own_differs}
+use Rattle.lanes.proofs.Combined.{own_lanes}
+use Rattle.lanes.proofs.Gathered.{put_paired, put_clash, put_sum}
 use Rattle.lanes.proofs.Said.{answers, said_clash, said_lost, said_whole}
-use Rattle.lanes.proofs.Combined.{sums_combined, own_lanes}
 use Rattle.lanes.proofs.answer.Goals as goal
 
 pub gather-requires : goal.gather-requires
-gather-requires c =
-    (c.requires.0, c.requires.2, blank_wide)
+gather-requires c = blank_wide
 
 pub clashing-requires : goal.clashing-requires
 clashing-requires c =
-    let shaped : Shape c.args.s = shape c.args.s c.requires.0.settings in
-    let paired : Paired (pairs_of (k_of c.args.s)) c.gather.new.pairs = subst⁻¹ (Paired (pairs_of (k_of c.args.s))) c.gather.ensures (all-paired c.args.s c.args.roles.now c.args.places.now c.args.bytes.now shaped) in
-    (c.requires.0, paired, c.requires.5)
+    let words = c.args.words.now in (
+      put_paired words.s (shape words.s words.settings) c.args.reduced.now words.places.now words.bytes.now c.gather.new.pairs
+          c.gather.ensures,
+      c.requires.3,
+    )
 
 pub returns-then-clashing : goal.returns-then-clashing
 returns-then-clashing c =
-    let shaped : Shape c.args.s = shape c.args.s c.requires.0.settings in
-    let small : (q : ℕ) → get_or c.args.bytes.now q 0 < 256 = λ q. (c.shared_slice_known-1.given q).fits in
-    let shared : Shared c.args.s c.args.roles.now c.args.places.now c.args.bytes.now c.gather.new.pairs = subst⁻¹ (Shared c.args.s c.args.roles.now c.args.places.now c.args.bytes.now) c.gather.ensures
-    (all-shared c.args.s c.args.roles.now c.args.places.now c.args.bytes.now shaped small) in
-    let checked : c.clashing.result ≡ lanes_clash c.args.s ((both c.args.rows.now c.args.roles.now)) c.args.flags.now c.args.places.now c.args.bytes.now = c.clashing.ensures
-    ∙ clash_sums c.args.s ((both c.args.rows.now c.args.roles.now)) c.args.flags.now c.args.places.now c.args.bytes.now (c.gather.new.pairs) (shaped) (shared) in
-    said_clash c.args.s ((both c.args.rows.now c.args.roles.now)) c.args.flags.now c.args.places.now c.args.bytes.now c.args.i c.args.out.now
-    (sym (checked) ∙ c.if-clashing.true)
+    let words = c.args.words.now in
+    let checked = c.clashing.ensures
+    ∙ put_clash words.s (shape words.s words.settings) c.args.reduced.now words.places.now words.bytes.now c.gather.new.pairs
+    c.gather.ensures words.small c.args.flags.now in
+    said_clash words.s c.args.reduced.now c.args.flags.now words.places.now words.bytes.now c.args.i c.args.out.now
+    (sym checked ∙ c.if-clashing.true)
 
-pub bounds-roles-i : goal.bounds-roles-i
-bounds-roles-i c =
-    let shaped : Shape c.args.s = shape c.args.s c.requires.0.settings in
-    let few : c.args.i < 16 = let h = shaped in omega arith in
-    few
-
-pub overflow_cast-i : goal.overflow_cast-i
-overflow_cast-i c =
-    let shaped : Shape c.args.s = shape c.args.s c.requires.0.settings in
-    let few : c.args.i < 16 = let h = shaped in omega arith in
-    omega (arith, few)
+pub bounds-reduced-i : goal.bounds-reduced-i
+bounds-reduced-i c = omega (arith, shape c.args.words.now.s c.args.words.now.settings)
 
 pub write_own-requires : goal.write_own-requires
-write_own-requires c =
-    let shaped : Shape c.args.s = shape c.args.s c.requires.0.settings in
-    let h = shaped in
-    (c.requires.0, omega arith, c.requires.3)
+write_own-requires c = (omega (arith, shape c.args.words.now.s c.args.words.now.settings), c.requires.1)
 
-pub returns-then-roles-i : goal.returns-then-roles-i
-returns-then-roles-i c =
-    let shaped : Shape c.args.s = shape c.args.s c.requires.0.settings in
-    let small : (q : ℕ) → get_or c.args.bytes.now q 0 < 256 = λ q. (c.shared_slice_known-1.given q).fits in
-    let shared : Shared c.args.s c.args.roles.now c.args.places.now c.args.bytes.now c.gather.new.pairs = subst⁻¹ (Shared c.args.s c.args.roles.now c.args.places.now c.args.bytes.now) c.gather.ensures
-    (all-shared c.args.s c.args.roles.now c.args.places.now c.args.bytes.now shaped small) in
-    let checked : c.clashing.result ≡ lanes_clash c.args.s ((both c.args.rows.now c.args.roles.now)) c.args.flags.now c.args.places.now c.args.bytes.now = c.clashing.ensures
-    ∙ clash_sums c.args.s ((both c.args.rows.now c.args.roles.now)) c.args.flags.now c.args.places.now c.args.bytes.now (c.gather.new.pairs) (shaped) (shared) in
-    let h = shaped in
-    let inside : c.args.i < 16 = omega arith in
-    let role = get_d_default c.args.roles.now c.args.i 16 0 (omega arith) ∙ c.if-roles-i.true in
-    ap (answers 0)
-    (c.write_own.ensures
-    ∙ own_lanes c.args.s ((both c.args.rows.now c.args.roles.now)) c.args.places.now c.args.bytes.now c.args.i c.requires.4 role h c.requires.1 (small))
-    ∙ said_whole c.args.s ((both c.args.rows.now c.args.roles.now)) c.args.flags.now c.args.places.now c.args.bytes.now c.args.i c.args.out.now
-    (sym (checked) ∙ c.if-clashing.false) (own_differs c.args.s ((both c.args.rows.now c.args.roles.now)) c.args.i c.requires.4 role h c.requires.1)
+pub returns-then-reduced-i : goal.returns-then-reduced-i
+returns-then-reduced-i c =
+    let words = c.args.words.now in
+    let x = c.args.reduced.now in
+    let h = shape words.s words.settings in
+    let checked = c.clashing.ensures
+    ∙ put_clash words.s h x words.places.now words.bytes.now c.gather.new.pairs c.gather.ensures words.small c.args.flags.now in
+    let role = get_d_default x.roles c.args.i 16 0 (omega arith) ∙ c.if-reduced-i.true in
+    ap (answers Whole)
+    (c.write_own.ensures ∙ own_lanes words.s x words.places.now words.bytes.now c.args.i c.requires.2 role h c.requires.0 words.small)
+    ∙ said_whole words.s x c.args.flags.now words.places.now words.bytes.now c.args.i c.args.out.now
+    (sym checked ∙ c.if-clashing.false) (own_differs words.s x c.args.i c.requires.2 role h c.requires.0)
 
 pub differing-requires : goal.differing-requires
 differing-requires c =
-    let shaped : Shape c.args.s = shape c.args.s c.requires.0.settings in
-    let few : c.args.i < 16 = let h = shaped in omega arith in
-    let h = shaped in
-    (few, omega arith, c.requires.2)
+    let h = shape c.args.words.now.s c.args.words.now.settings in
+    (omega arith, omega arith)
 
 pub returns-then-differing : goal.returns-then-differing
 returns-then-differing c =
-    let shaped : Shape c.args.s = shape c.args.s c.requires.0.settings in
-    let small : (q : ℕ) → get_or c.args.bytes.now q 0 < 256 = λ q. (c.shared_slice_known-1.given q).fits in
-    let shared : Shared c.args.s c.args.roles.now c.args.places.now c.args.bytes.now c.gather.new.pairs = subst⁻¹ (Shared c.args.s c.args.roles.now c.args.places.now c.args.bytes.now) c.gather.ensures
-    (all-shared c.args.s c.args.roles.now c.args.places.now c.args.bytes.now shaped small) in
-    let checked : c.clashing.result ≡ lanes_clash c.args.s ((both c.args.rows.now c.args.roles.now)) c.args.flags.now c.args.places.now c.args.bytes.now = c.clashing.ensures
-    ∙ clash_sums c.args.s ((both c.args.rows.now c.args.roles.now)) c.args.flags.now c.args.places.now c.args.bytes.now (c.gather.new.pairs) (shaped) (shared) in
-    said_lost c.args.s ((both c.args.rows.now c.args.roles.now)) c.args.flags.now c.args.places.now c.args.bytes.now c.args.i c.args.out.now
-    (sym (checked) ∙ c.if-clashing.false) (sym c.differing.ensures ∙ c.if-differing.true)
+    let words = c.args.words.now in
+    let checked = c.clashing.ensures
+    ∙ put_clash words.s (shape words.s words.settings) c.args.reduced.now words.places.now words.bytes.now c.gather.new.pairs
+    c.gather.ensures words.small c.args.flags.now in
+    said_lost words.s c.args.reduced.now c.args.flags.now words.places.now words.bytes.now c.args.i c.args.out.now
+    (sym checked ∙ c.if-clashing.false) (sym c.differing.ensures ∙ c.if-differing.true)
 
 pub write_sum-requires : goal.write_sum-requires
 write_sum-requires c =
-    let shaped : Shape c.args.s = shape c.args.s c.requires.0.settings in
-    let paired : Paired (pairs_of (k_of c.args.s)) c.gather.new.pairs = subst⁻¹ (Paired (pairs_of (k_of c.args.s))) c.gather.ensures (all-paired c.args.s c.args.roles.now c.args.places.now c.args.bytes.now shaped) in
-    let h = shaped in
-    (c.requires.0.settings, paired, omega arith, c.requires.3)
+    let words = c.args.words.now in
+    let h = shape words.s words.settings in (
+      words.settings,
+      put_paired words.s h c.args.reduced.now words.places.now words.bytes.now c.gather.new.pairs c.gather.ensures,
+      omega arith,
+      c.requires.1,
+    )
 
 pub returns : goal.returns
 returns c =
-    let shaped : Shape c.args.s = shape c.args.s c.requires.0.settings in
-    let small : (q : ℕ) → get_or c.args.bytes.now q 0 < 256 = λ q. (c.shared_slice_known-1.given q).fits in
-    let shared : Shared c.args.s c.args.roles.now c.args.places.now c.args.bytes.now c.gather.new.pairs = subst⁻¹ (Shared c.args.s c.args.roles.now c.args.places.now c.args.bytes.now) c.gather.ensures
-    (all-shared c.args.s c.args.roles.now c.args.places.now c.args.bytes.now shaped small) in
-    let checked : c.clashing.result ≡ lanes_clash c.args.s ((both c.args.rows.now c.args.roles.now)) c.args.flags.now c.args.places.now c.args.bytes.now = c.clashing.ensures
-    ∙ clash_sums c.args.s ((both c.args.rows.now c.args.roles.now)) c.args.flags.now c.args.places.now c.args.bytes.now (c.gather.new.pairs) (shaped) (shared) in
-    ap (answers 0)
+    let words = c.args.words.now in
+    let x = c.args.reduced.now in
+    let h = shape words.s words.settings in
+    let checked = c.clashing.ensures
+    ∙ put_clash words.s h x words.places.now words.bytes.now c.gather.new.pairs c.gather.ensures words.small c.args.flags.now in
+    ap (answers Whole)
     (c.write_sum.ensures
-    ∙ sums_combined c.args.s ((both c.args.rows.now c.args.roles.now)) c.args.places.now c.args.bytes.now (c.gather.new.pairs) (shaped) (shared) c.args.i)
-    ∙ said_whole c.args.s ((both c.args.rows.now c.args.roles.now)) c.args.flags.now c.args.places.now c.args.bytes.now c.args.i c.args.out.now
-    (sym (checked) ∙ c.if-clashing.false) (sym c.differing.ensures ∙ c.if-differing.false)
+    ∙ put_sum words.s h x words.places.now words.bytes.now c.gather.new.pairs c.gather.ensures words.small c.args.i)
+    ∙ said_whole words.s x c.args.flags.now words.places.now words.bytes.now c.args.i c.args.out.now
+    (sym checked ∙ c.if-clashing.false) (sym c.differing.ensures ∙ c.if-differing.false)

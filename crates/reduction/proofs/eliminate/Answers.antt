@@ -32,7 +32,7 @@ loop-p-init c =
 
 pub column_step-requires : goal.column_step-requires
 column_step-requires c =
-    (omega (arith, c.loop-p.invariant.shaped), omega (arith, c.loop-p.invariant.shaped), c.requires)
+    (omega (arith, c.loop-p.invariant.shaped), omega (arith, c.loop-p.invariant.shaped))
 
 pub loop-p-preserved : goal.loop-p-preserved
 loop-p-preserved c =

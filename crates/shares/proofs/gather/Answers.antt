@@ -12,66 +12,48 @@ use Rattle.shares.specs.Shares.{role_of, source_of}
 use Rattle.shares.proofs.Shares.{source_held}
 use Rattle.shares.proofs.gather.Goals as goal
 
-pub overflow_add-count : goal.overflow_add-count
-overflow_add-count c =
-    let h = shape c.args.s c.requires.0.settings in
-    omega arith
-
 pub loop-j-init : goal.loop-j-init
 unfolding gathered_of
-loop-j-init c =
-    let h = shape c.args.s c.requires.0.settings in
-    (h, omega arith, refl)
+loop-j-init c = refl
 
 pub overflow_mul-j : goal.overflow_mul-j
-overflow_mul-j c =
-    omega arith
-
-pub source-first-requires : goal.source-first-requires
-source-first-requires c =
-    (c.requires.0.settings, c.requires.1)
+overflow_mul-j c = omega (arith, shape c.args.words.now.s c.args.words.now.settings)
 
 pub overflow_mul-j-in-loop-j : goal.overflow_mul-j-in-loop-j
-overflow_mul-j-in-loop-j c =
-    omega arith
+overflow_mul-j-in-loop-j c = omega (arith, shape c.args.words.now.s c.args.words.now.settings)
 
 pub overflow_add-j : goal.overflow_add-j
-overflow_add-j c =
-    omega arith
-
-pub source-second-requires : goal.source-second-requires
-source-second-requires c =
-    (c.requires.0.settings, c.requires.1)
+overflow_add-j c = omega (arith, shape c.args.words.now.s c.args.words.now.settings)
 
 pub pair_up-requires : goal.pair_up-requires
 pair_up-requires c =
-    let within : (x : Source) (r : ℕ) → x ≡ source_of c.args.s c.args.roles.now c.args.places.now r
-    → x.start + c.args.s.lanes ≤ length c.args.bytes.now = λ x r is. subst⁻¹ (λ (x : Source). x.start + c.args.s.lanes ≤ length c.args.bytes.now) is
-    (source_held c.args.s c.args.places.now (role_of c.args.s c.args.roles.now r) c.args.bytes.now c.loop-j.invariant.0 c.requires.0) in
-    let wide : Wide c.loop-j.pairs = subst⁻¹ Wide c.loop-j.invariant.2
-    (gathered_wide c.args.bytes.now c.args.s.lanes (source_of c.args.s c.args.roles.now c.args.places.now) c.args.pairs.now c.loop-j.invariant.0.lanes_few
-    c.requires.2 c.loop-j.j (omega arith)) in (
+    let words = c.args.words.now in
+    let h = shape words.s words.settings in
+    let within : (x : Source) (r : ℕ) → x ≡ source_of words.s c.args.roles.now words.places.now r
+    → x.start + words.s.lanes ≤ length words.bytes.now = λ x r is.
+    subst⁻¹ (λ (x : Source). x.start + words.s.lanes ≤ length words.bytes.now) is
+    (source_held words.s words.places.now (role_of words.s c.args.roles.now r) words.bytes.now h words.inside) in
+    let wide : Wide c.loop-j.pairs =
+    subst⁻¹ Wide c.loop-j.invariant
+    (gathered_wide words.bytes.now words.s.lanes (source_of words.s c.args.roles.now words.places.now) c.args.pairs.now h.lanes_few
+    c.requires c.loop-j.j (omega arith)) in (
       omega arith,
-      c.loop-j.invariant.0.lanes_few,
+      h.lanes_few,
       within c.source-first.result _ c.source-first.ensures,
       within c.source-second.result _ c.source-second.ensures,
       wide,
     )
 
-pub overflow_add-j-in-loop-j : goal.overflow_add-j-in-loop-j
-overflow_add-j-in-loop-j c =
-    omega arith
-
 pub loop-j-preserved : goal.loop-j-preserved
-loop-j-preserved c = (
-  c.loop-j.invariant.0,
-  omega arith,
-  c.pair_up.ensures
-      ∙ gathered_more c.args.bytes.now c.args.s.lanes (source_of c.args.s c.args.roles.now c.args.places.now) c.args.pairs.now c.loop-j.j c.loop-j.pairs
-      c.source-first.result c.source-second.result c.loop-j.invariant.2 c.source-first.ensures c.source-second.ensures,
-)
+loop-j-preserved c =
+    let words = c.args.words.now in
+    c.pair_up.ensures
+    ∙ gathered_more words.bytes.now words.s.lanes (source_of words.s c.args.roles.now words.places.now) c.args.pairs.now c.loop-j.j
+    c.loop-j.pairs c.source-first.result c.source-second.result c.loop-j.invariant c.source-first.ensures c.source-second.ensures
 
 pub returns : goal.returns
 returns c =
-    let all : c.loop-j.j ≡ pairs_of (k_of c.args.s) = omega arith in
-    c.loop-j.invariant.2 ∙ ap (λ (m : ℕ). gathered_of c.args.bytes.now c.args.s.lanes (source_of c.args.s c.args.roles.now c.args.places.now) m c.args.pairs.now) all
+    let words = c.args.words.now in
+    let all : c.loop-j.j ≡ pairs_of (k_of words.s) = omega arith in
+    c.loop-j.invariant
+    ∙ ap (λ (m : ℕ). gathered_of words.bytes.now words.s.lanes (source_of words.s c.args.roles.now words.places.now) m c.args.pairs.now) all

@@ -16,6 +16,6 @@ pub returns-then-next-receiver_len : goal.returns-then-next-receiver_len
 returns-then-next-receiver_len c =
     rw (lt-ltb (c.args.start + row_len c.args.s) (receiver_len c.args.s) (omega arith)) (ap (λ (m : ℕ). c.args.start + m) c.row_len.ensures)
 
-pub returns : goal.returns
-returns c =
+pub returns-else-next-receiver_len : goal.returns-else-next-receiver_len
+returns-else-next-receiver_len c =
     rw (le-ltb (c.args.start + row_len c.args.s) (receiver_len c.args.s) (omega arith))
