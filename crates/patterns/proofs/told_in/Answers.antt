@@ -13,5 +13,4 @@ write_symbol-requires c =
       c.requires.4,
       search rules,
       c.requires.3 ∙ sym c.requires.1,
-      search rules,
     )
