@@ -45,7 +45,8 @@ module _ (s : Settings) (recording : List ℕ) (good : Sound s recording) where
   rises =
       any_none (frames_in s recording - 1) (λ i. leb (slot_of s recording (suc i)) (slot_of s recording i))
       (λ i h t.
-      let low = leb-true (slot_of s recording (suc i)) (slot_of s recording i) (is_true (leb (slot_of s recording (suc i)) (slot_of s recording i)) t) in
+      let low = leb-true (slot_of s recording (suc i)) (slot_of s recording i)
+      (is_true (leb (slot_of s recording (suc i)) (slot_of s recording i)) t) in
       let high = good.rising i (suc i) (lt-suc_self i) (omega arith) in
       omega arith)
 

@@ -104,12 +104,14 @@ module _ (s : Settings) (recording : List ℕ) (rising : Rising s recording) (sl
   unfolding next_in
   next_in_lem = go (ltb (below s recording slot) (frames_in s recording)) refl
     where
-      go : (b : Bool) → ltb (below s recording slot) (frames_in s recording) ≡ b → FirstFrom (has s recording) slot (next_in s recording slot)
+      go : (b : Bool) → ltb (below s recording slot) (frames_in s recording) ≡ b
+          → FirstFrom (has s recording) slot (next_in s recording slot)
       go true e =
           let at : ℕ = below s recording slot in
           let inside : at < frames_in s recording = ltb-true at (frames_in s recording) e in
           rw (e, next_in)
-          (first_at (slot_of s recording at) ((splits s recording rising slot).high at (le_refl at) inside) (has_frame s recording at inside)
+          (first_at (slot_of s recording at) ((splits s recording rising slot).high at (le_refl at) inside)
+          (has_frame s recording at inside)
           (λ k h before. has_none k h (λ i l m same. let least = no_lower s recording rising at i l m in omega arith)))
       go false e =
           let out = ltb-false (below s recording slot) (frames_in s recording) e in

@@ -59,7 +59,9 @@ sound s recording fits marks settings slots =
     record {
       short = ltb-false 65536 (length recording) parts.0;
       whole = eqb→eq (length recording % frame_len s) 0 (passes (eqb (length recording % frame_len s) 0) parts.1);
-      marked = λ i h. passes (agree 5 (frame_of s recording i) (mark 1)) (none_at n (λ j. not (agree 5 (frame_of s recording j) (mark 1))) marks i h);
+      marked = λ i h.
+          passes (agree 5 (frame_of s recording i) (mark 1))
+          (none_at n (λ j. not (agree 5 (frame_of s recording j) (mark 1))) marks i h);
       settled = λ i h.
           passes (agree 5 (drop 5 (frame_of s recording i)) (five s))
           (none_at n (λ j. not (agree 5 (drop 5 (frame_of s recording j)) (five s))) settings i h);

@@ -46,7 +46,8 @@ module _ (s : Settings) (recording : List ℕ) where
     above : (i j : ℕ) → i ≤ j → j < frames_in s recording → T (ltb (slot_of s recording j) (slot_of s recording i)) → ⊥
     unfolding Rising
     above i j k l t =
-        let less = ltb-true (slot_of s recording j) (slot_of s recording i) (is_true (ltb (slot_of s recording j) (slot_of s recording i)) t) in
+        let less =
+        ltb-true (slot_of s recording j) (slot_of s recording i) (is_true (ltb (slot_of s recording j) (slot_of s recording i)) t) in
         ⊎_elim (λ same. let e : slot_of s recording i ≡ slot_of s recording j = ap (slot_of s recording) same in absurd (omega arith))
         (λ before. let more = rising i j before l in absurd (omega arith)) (eq-or-lt_of_le k)
 
@@ -75,7 +76,8 @@ module _ (s : Settings) (recording : List ℕ) where
           go true e = let there = stands_below e in absurd (omega arith)
           go false e = e
 
-      pub stands : below s recording slot < frames_in s recording → eqb (slot_of s recording (below s recording slot)) slot ≡ has s recording slot
+      pub stands : below s recording slot < frames_in s recording
+          → eqb (slot_of s recording (below s recording slot)) slot ≡ has s recording slot
       stands h = go (has s recording slot) refl
         where
           go : (b : Bool) → has s recording slot ≡ b → eqb (slot_of s recording (below s recording slot)) slot ≡ has s recording slot
@@ -136,6 +138,7 @@ unfolding join_of
 join_accepted s first second slot e = rw (e, join_of)
 
 -- and an empty part where it is refused
-pub join_refused : (s : Settings) (first second : List ℕ) (slot n : ℕ) → pair_cause s first second ≡ suc n → join_of s first second slot ≡ no_part
+pub join_refused : (s : Settings) (first second : List ℕ) (slot n : ℕ) → pair_cause s first second ≡ suc n
+    → join_of s first second slot ≡ no_part
 unfolding join_of
 join_refused s first second slot n e = rw (e, join_of)

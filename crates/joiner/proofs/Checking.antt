@@ -25,7 +25,8 @@ some_of_three false false true rest c e = e
 some_of_three false false false rest c e = absurd (cc)
 
 -- or none does
-none_of_three : (mark settings falls : Bool) → frames_met mark settings falls ≡ Ok tt → (mark ≡ false) × (settings ≡ false) × (falls ≡ false)
+none_of_three : (mark settings falls : Bool) → frames_met mark settings falls ≡ Ok tt
+    → (mark ≡ false) × (settings ≡ false) × (falls ≡ false)
 none_of_three true settings falls e = absurd (cc)
 none_of_three false true falls e = absurd (cc)
 none_of_three false false true e = absurd (cc)
@@ -50,12 +51,15 @@ module _ (s : Settings) (x y : List ℕ) where
       unfolding pair_check
       by_frames c e =
           rw (settled, fit)
-          (sym (some_of_three (other_mark s x || other_mark s y) (other_settings s x || other_settings s y) (falling s x || falling s y) _ c e))
+          (sym
+          (some_of_three (other_mark s x || other_mark s y) (other_settings s x || other_settings s y) (falling s x || falling s y) _ c e))
 
       -- where no frame meets one, slots rise
       module _ (none : met ≡ Ok tt) where
-        pub clear : (other_mark s x || other_mark s y ≡ false) × (other_settings s x || other_settings s y ≡ false) × (falling s x || falling s y ≡ false)
-        clear = none_of_three (other_mark s x || other_mark s y) (other_settings s x || other_settings s y) (falling s x || falling s y) none
+        pub clear : (other_mark s x || other_mark s y ≡ false) × (other_settings s x || other_settings s y ≡ false)
+            × (falling s x || falling s y ≡ false)
+        clear =
+            none_of_three (other_mark s x || other_mark s y) (other_settings s x || other_settings s y) (falling s x || falling s y) none
 
         pub by_overlap : (b : Bool) → unlike s x y ≡ b → refused_if b Unlike (Ok tt) ≡ pair_check s x y
         unfolding pair_check

@@ -45,7 +45,8 @@ module _ (s : Settings) (recording : List ℕ) (slot : ℕ) where
           upper = λ i h k. let far = apart 0 i (omega arith) k in omega arith;
         }
 
-  module _ (rising : Rising s recording) (low high mid : ℕ) (b : Bracket s recording slot low high) (above : low ≤ mid) (under : mid < high) where
+  module _ (rising : Rising s recording) (low high mid : ℕ) (b : Bracket s recording slot low high)
+      (above : low ≤ mid) (under : mid < high) where
     -- the frame in the middle is of a lower slot, and so are those before it
     pub up : slot_of s recording mid < slot → Bracket s recording slot (mid + 1) high
     unfolding Rising

@@ -41,7 +41,8 @@ module _ (s : Settings) (first second : List ℕ) where
   pub none_passed : Passed 0 0
   none_passed = record { of_first = λ a b h. absurd (omega arith); of_second = λ a b k h. absurd (omega arith) }
 
-  module _ (up : Rising s first) (over : Rising s second) (i j : ℕ) (p : Passed i j) (hi : i < frames_in s first) (hj : j < frames_in s second) where
+  module _ (up : Rising s first) (over : Rising s second) (i j : ℕ) (p : Passed i j)
+      (hi : i < frames_in s first) (hj : j < frames_in s second) where
     -- the first's frame is behind: no frame of the second that is left stands for its slot
     pub first_behind : slot_of s first i < slot_of s second j → Passed (suc i) j
     first_behind less =
@@ -108,7 +109,8 @@ module _ (s : Settings) (first second : List ℕ) where
       let found = any_at (frames_in s second) (test a) t in
       let b = found.0 in
       let tests = found.2 in
-      let one-slot = eqb→eq (slot_of s first a) (slot_of s second b) (and_left (eqb (slot_of s first a) (slot_of s second b)) (unequal a b) tests) in
+      let one-slot = eqb→eq (slot_of s first a) (slot_of s second b)
+      (and_left (eqb (slot_of s first a) (slot_of s second b)) (unequal a b) tests) in
       let differ = and_right (eqb (slot_of s first a) (slot_of s second b)) (unequal a b) tests in
       rw (is_true (agree (frame_len s) (frame_of s first a) (frame_of s second b)) (same a b h found.1 one-slot)) at differ)
 

@@ -38,7 +38,8 @@ same_bytes m a b long as_long =
     same_from_decides _ _ (slice_eq-Decides Decides-eqb a b (pointwise eqb a b) refl) (agreed m a b long as_long)
 
 module _ (s : Settings) (first second : List ℕ) (i j : ℕ) (hi : i < frames_in s first) (hj : j < frames_in s second)
-    (a b : List ℕ) (is : a ≡ frame_of s first i) (other : b ≡ frame_of s second j) (differs : Bool) (tested : differs ≡ not (pointwise eqb a b)) where
+    (a b : List ℕ) (is : a ≡ frame_of s first i) (other : b ≡ frame_of s second j) (differs : Bool)
+    (tested : differs ≡ not (pointwise eqb a b)) where
   same : pointwise eqb a b ≡ agree (frame_len s) (frame_of s first i) (frame_of s second j)
   same = rw (is, other) (same_bytes (frame_len s) _ _ (frame_length s first i hi) (frame_length s second j hj))
 

@@ -50,7 +50,8 @@ module _ (s : Settings) (recording : List ℕ) where
 
   -- one frame more
   pub one_more : (n : ℕ) (marks settings falls : Bool) (least slot : ℕ) (x y : Bool) → Walked s recording n marks settings falls least
-      → x ≡ agree 5 (frame_of s recording n) (mark 1) → y ≡ agree 5 (drop 5 (frame_of s recording n)) (five s) → slot ≡ slot_of s recording n
+      → x ≡ agree 5 (frame_of s recording n) (mark 1) → y ≡ agree 5 (drop 5 (frame_of s recording n)) (five s)
+      → slot ≡ slot_of s recording n
       → Walked s recording (suc n) (marks || not x) (settings || not y) (falls || ltb slot least) (slot + 1)
   unfolding any
   one_more n marks settings falls least slot x y w a b e =

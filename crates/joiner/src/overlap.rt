@@ -13,6 +13,7 @@ pub(crate) fn unlike<'a>(first: Ordered<'a>, second: Ordered<'a>) -> bool
     let (m, n) = (a.len(), b.len());
     let mut i: usize = 0;
     let mut j: usize = 0;
+    // The one number goes on, or the other, or both: no range is walked.
     while i < m && j < n {
         let (x, y) = (a.slot(i), b.slot(j));
         if x < y {

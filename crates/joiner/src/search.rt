@@ -34,6 +34,7 @@ impl<'a> Ordered<'a> {
     {
         let mut bottom = low;
         let mut top = high;
+        // Two ends close in on the slot, by halves: no range is walked.
         while bottom < top {
             let middle = bottom + (top - bottom) / 2;
             let here = self.recorded.slot(middle);

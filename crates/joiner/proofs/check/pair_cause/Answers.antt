@@ -31,7 +31,8 @@ both : (a b : Bool) → a ≡ false → b ≡ false → a || b ≡ false
 both a b e f = rw (e, f)
 
 met_by : (s : Settings) (x y : List ℕ) (a b : Faults) (r : Check)
-    → r ≡ frames_met (a.mark || b.mark) (a.settings || b.settings) (a.falling || b.falling) → a.mark ≡ other_mark s x → b.mark ≡ other_mark s y
+    → r ≡ frames_met (a.mark || b.mark) (a.settings || b.settings) (a.falling || b.falling)
+    → a.mark ≡ other_mark s x → b.mark ≡ other_mark s y
     → a.settings ≡ other_settings s x → b.settings ≡ other_settings s y → a.falling ≡ falling s x → b.falling ≡ falling s y → r ≡ met s x y
 met_by s x y a b r is p q u v w z = rw (← p, ← q, ← u, ← v, ← w, ← z) is
 
@@ -63,7 +64,8 @@ returns-in_err-frames_met c =
     let fit = both _ _ (sym c.unfit.ensures ∙ c.if-unfit.false) (sym c.unfit-else-unfit.ensures ∙ c.if-unfit-2.false) in
     let a = c.faults.ensures in
     let b = c.faults-2.ensures in
-    let found : c.frames_met.result ≡ met s x y = met_by s x y _ _ _ c.frames_met.ensures a.mark b.mark a.settings b.settings a.falling b.falling in
+    let found : c.frames_met.result ≡ met s x y =
+    met_by s x y _ _ _ c.frames_met.ensures a.mark b.mark a.settings b.settings a.falling b.falling in
     let p = err_from_is_err_and c.from_residual.result c.from_residual.ensures.1 in
     let is : c.from_residual.result ≡ pair_check s x y =
     p.1 ∙ ap Err p.2 ∙ by_frames s x y settled fit c.in_err-frames_met.field-0.0 (sym found ∙ c.in_err-frames_met.was) in
@@ -78,7 +80,8 @@ new-requires c =
     let fit = both _ _ (sym c.unfit.ensures ∙ c.if-unfit.false) (sym c.unfit-else-unfit.ensures ∙ c.if-unfit-2.false) in
     let a = c.faults.ensures in
     let b = c.faults-2.ensures in
-    let found : c.frames_met.result ≡ met s x y = met_by s x y _ _ _ c.frames_met.ensures a.mark b.mark a.settings b.settings a.falling b.falling in
+    let found : c.frames_met.result ≡ met s x y =
+    met_by s x y _ _ _ c.frames_met.ensures a.mark b.mark a.settings b.settings a.falling b.falling in
     let none : met s x y ≡ Ok tt = sym found ∙ c.in_ok-frames_met.was in
     rising s x (neither (falling s x) (falling s y) (clear s x y settled fit none).2).0
 
@@ -91,7 +94,8 @@ new-requires-2 c =
     let fit = both _ _ (sym c.unfit.ensures ∙ c.if-unfit.false) (sym c.unfit-else-unfit.ensures ∙ c.if-unfit-2.false) in
     let a = c.faults.ensures in
     let b = c.faults-2.ensures in
-    let found : c.frames_met.result ≡ met s x y = met_by s x y _ _ _ c.frames_met.ensures a.mark b.mark a.settings b.settings a.falling b.falling in
+    let found : c.frames_met.result ≡ met s x y =
+    met_by s x y _ _ _ c.frames_met.ensures a.mark b.mark a.settings b.settings a.falling b.falling in
     let none : met s x y ≡ Ok tt = sym found ∙ c.in_ok-frames_met.was in
     rising s y (neither (falling s x) (falling s y) (clear s x y settled fit none).2).1
 
@@ -104,7 +108,8 @@ returns-then-unlike c =
     let fit = both _ _ (sym c.unfit.ensures ∙ c.if-unfit.false) (sym c.unfit-else-unfit.ensures ∙ c.if-unfit-2.false) in
     let a = c.faults.ensures in
     let b = c.faults-2.ensures in
-    let found : c.frames_met.result ≡ met s x y = met_by s x y _ _ _ c.frames_met.ensures a.mark b.mark a.settings b.settings a.falling b.falling in
+    let found : c.frames_met.result ≡ met s x y =
+    met_by s x y _ _ _ c.frames_met.ensures a.mark b.mark a.settings b.settings a.falling b.falling in
     let none : met s x y ≡ Ok tt = sym found ∙ c.in_ok-frames_met.was in
     let seen : c.unlike.result ≡ unlike s x y =
     rw (c.new.ensures.settings, c.new.ensures.bytes, c.new-2.ensures.bytes) at c.unlike.ensures in
@@ -120,7 +125,8 @@ returns c =
     let fit = both _ _ (sym c.unfit.ensures ∙ c.if-unfit.false) (sym c.unfit-else-unfit.ensures ∙ c.if-unfit-2.false) in
     let a = c.faults.ensures in
     let b = c.faults-2.ensures in
-    let found : c.frames_met.result ≡ met s x y = met_by s x y _ _ _ c.frames_met.ensures a.mark b.mark a.settings b.settings a.falling b.falling in
+    let found : c.frames_met.result ≡ met s x y =
+    met_by s x y _ _ _ c.frames_met.ensures a.mark b.mark a.settings b.settings a.falling b.falling in
     let none : met s x y ≡ Ok tt = sym found ∙ c.in_ok-frames_met.was in
     let seen : c.unlike.result ≡ unlike s x y =
     rw (c.new.ensures.settings, c.new.ensures.bytes, c.new-2.ensures.bytes) at c.unlike.ensures in

@@ -11,7 +11,8 @@ use Rattle.joiner.proofs.Overlaps.{none_passed, first_behind, second_behind, bot
 use Rattle.joiner.proofs.overlap.unlike.Goals as goal
 
 pub loop-i-init : goal.loop-i-init
-loop-i-init c = (zero-le, zero-le, none_passed c.args.first.recorded.settings c.args.first.recorded.bytes.now c.args.second.recorded.bytes.now)
+loop-i-init c =
+    (zero-le, zero-le, none_passed c.args.first.recorded.settings c.args.first.recorded.bytes.now c.args.second.recorded.bytes.now)
 
 pub loop-i-preserved-then-x-y : goal.loop-i-preserved-then-x-y
 loop-i-preserved-then-x-y c =
@@ -96,4 +97,5 @@ returns-after-loop-i c =
     let s : Settings = c.args.first.recorded.settings in
     let first : List ℕ = c.args.first.recorded.bytes.now in
     let second : List ℕ = c.args.second.recorded.bytes.now in
-    sym (none_unlike s first second (λ x y hx hy. c.loop-i.invariant.2.of_first x y (omega (arith, c.loop-i-test.false, c.len-m.ensures)) hy))
+    sym
+    (none_unlike s first second (λ x y hx hy. c.loop-i.invariant.2.of_first x y (omega (arith, c.loop-i-test.false, c.len-m.ensures)) hy))

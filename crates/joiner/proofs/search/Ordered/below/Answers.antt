@@ -19,7 +19,8 @@ pub returns-then-last-slot : goal.returns-then-last-slot
 returns-then-last-slot c =
     let some : frames_in c.args.self.recorded.settings c.args.self.recorded.bytes.now ≡ suc (c.len-count.result - 1) =
     omega (arith, c.len-count.ensures, c.if-count-eq0.false) in
-    let all = all-below c.args.self.recorded.settings c.args.self.recorded.bytes.now c.args.slot c.args.self.rises (c.len-count.result - 1) some
+    let all =
+    all-below c.args.self.recorded.settings c.args.self.recorded.bytes.now c.args.slot c.args.self.rises (c.len-count.result - 1) some
     (omega (arith, c.slot-last.ensures, c.if-last-slot.true)) in
     omega (arith, all, some, c.len-count.ensures)
 

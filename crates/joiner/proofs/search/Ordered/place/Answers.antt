@@ -44,9 +44,9 @@ pub returns-else-n-len : goal.returns-else-n-len
 returns-else-n-len c =
     elim c.else-n-len.branch [
       | else-n-len-via-then-n-len+else-slot w ↦
-          other c.args.self.recorded.settings c.args.self.recorded.bytes.now c.args.self.rises c.args.slot c.below-n.result c.below-n.ensures
-          (omega (arith, w.if-n-len.true, c.len.ensures)) (λ e. w.if-slot.false (w.slot.ensures ∙ e))
+          other c.args.self.recorded.settings c.args.self.recorded.bytes.now c.args.self.rises c.args.slot c.below-n.result
+          c.below-n.ensures (omega (arith, w.if-n-len.true, c.len.ensures)) (λ e. w.if-slot.false (w.slot.ensures ∙ e))
       | else-n-len-via-else-n-len w ↦
-          ended c.args.self.recorded.settings c.args.self.recorded.bytes.now c.args.self.rises c.args.slot c.below-n.result c.below-n.ensures
-          (omega (arith, w.if-n-len.false, c.len.ensures))
+          ended c.args.self.recorded.settings c.args.self.recorded.bytes.now c.args.self.rises c.args.slot c.below-n.result
+          c.below-n.ensures (omega (arith, w.if-n-len.false, c.len.ensures))
     ]
