@@ -36,7 +36,7 @@ fn source(words: &Codewords, roles: &[u8; 16], r: usize) -> Source
     }
 }
 
-// Puts the vectors of all rows, a pair at a time.
+// Puts the vectors of all rows, a pair at a time. The table is lent: returned it would be 2048 bytes that are copied.
 pub fn gather(words: &Codewords, roles: &[u8; 16], pairs: &mut [[u8; 64]; 32])
     requires { Wide pairs.old }
     ensures { pairs.new
@@ -51,7 +51,8 @@ pub fn gather(words: &Codewords, roles: &[u8; 16], pairs: &mut [[u8; 64]; 32])
     }
 }
 
-// The weighted sum of the vectors at position q.
+// The weighted sum of the vectors at position q. That the table is paired stays a requirement: a struct of both would hold the settings a
+// second time beside those of the codewords, and each caller would owe that they agree.
 pub fn sum_at(s: Settings, rows: &[[u8; 16]; 16], pairs: &[[u8; 64]; 32], q: usize) -> [u8; 64]
     requires { T (accepted s) × Paired (pairs_of (k_of s)) pairs.now × (q < n_of s) }
     ensures { result ≡ weighted_of rows.now q pairs.now (pairs_of (k_of s)) }
