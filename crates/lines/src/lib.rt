@@ -14,33 +14,29 @@ use text::{put_line, put_stop};
 pub fn has_room(line: usize, message: usize) -> bool
     ensures { result ≡ leb (18 + 2 * message) line }
 {
-    if line < 18 {
-        return false;
-    }
-    if (line - 18) / 2 < message {
-        return false;
-    }
-    true
+    line >= 18 && (line - 18) / 2 >= message
 }
 
 // The line of a report, and how long it is: 0 where the lent line has no room for the longest.
 pub fn write_line(about: u32, reply: Result<Told, Cause>, message: &[u8], line: &mut [u8]) -> usize
     ensures { record { line = line.new; len = result } ≡ line_on about reply message.now line.old }
 {
-    if !has_room(line.len(), message.len()) {
-        return 0;
+    if has_room(line.len(), message.len()) {
+        put_line(about, reply, message, line)
+    } else {
+        0
     }
-    put_line(about, reply, message, line)
 }
 
 // The line of a refusal by its number, and how long it is: 0 where the lent line has no room for any number's.
 pub fn write_stop_number(n: u32, line: &mut [u8]) -> usize
     ensures { record { line = line.new; len = result } ≡ stop_text_on n line.old }
 {
-    if line.len() < 16 {
-        return 0;
+    if line.len() >= 16 {
+        put_stop(n, line)
+    } else {
+        0
     }
-    put_stop(n, line)
 }
 
 // That of a cause.

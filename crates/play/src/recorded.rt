@@ -9,7 +9,6 @@ ghost use Rattle.pairplay.proofs.Left.{pair_left};
 
 use code::Settings;
 use progress::{Player, Progress};
-use stops::Start;
 
 pub(crate) trait Recorded {
     // Whether it is accepted with these settings.
@@ -40,11 +39,7 @@ impl<'a> Recorded for One<'a> {
     ghost left = { λ r p. steps_left r.0.now p };
 
     fn start(&self) -> Result<Option<Settings>, u32> {
-        match stops::examine(self.0) {
-            Start::Empty => Ok(None),
-            Start::Stop(c) => Err(u32::from(c)),
-            Start::Play(s) => Ok(Some(s)),
-        }
+        Ok(stops::examine(self.0)?)
     }
 
     fn play_on(&self, p: Player, rows: &mut [u8], message: &mut [u8], out: &mut [u8]) -> Progress {

@@ -1,5 +1,5 @@
 -- Every recording: what its fillings hand out, one after another, is its transcript, and they end.
-use Rattle.std.specs.Prelude.{Ok, Err}
+use Rattle.std.specs.Prelude.{Some, Ok, Err}
 use mathlib.Core.Path.{◌≡◌, refl}
 use mathlib.Core.Bool.{Bool, true, false}
 use mathlib.Core.List.{List, ◌++◌, append_assoc}
@@ -12,7 +12,6 @@ use Rattle.code.specs.declared.settings.Settings.{Settings}
 use Rattle.protocol.specs.Answers.{Answer}
 use Rattle.lines.specs.Text.{written}
 use Rattle.lines.specs.Lent.{longest}
-use Rattle.stops.specs.declared.Start.TheVariants.{Play}
 use Rattle.frames.specs.Fields.{settings_in}
 use Rattle.stops.specs.Stops.{recording_cause, start_of}
 use Rattle.stops.proofs.StartLaws.{passed}
@@ -103,7 +102,7 @@ module _ (recording rows message : List ℕ) (buffer : ℕ → List ℕ) (fit : 
   printed_by false some (Err c) found = rw (some, found, transcript) (Printed.refused c (rw (some, found, start_of)))
   printed_by false some (Ok tt) found =
       let s : Settings = settings_in recording in
-      let starts : start_of recording ≡ Play s = rw (some, found, start_of) in
+      let starts : start_of recording ≡ Ok (Some s) = rw (some, found, start_of) in
       let pass = passed recording found in
       let exact = fit s starts in
       let b = begin_of s rows message in

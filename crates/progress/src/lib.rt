@@ -26,15 +26,11 @@ pub struct Progress {
 }
 
 // The message that the report of the slot due tells of, if there is one.
+#[tactic(auto, unfolding(protocol::specs::Calls::message_due))]
 fn about(x: Receiver) -> u32
     ensures { result ≡ message_due x.settings x.due }
 {
-    let s = x.settings;
-    let delay = s.effective_delay() as u32;
-    if x.due < delay {
-        return 0;
-    }
-    x.due - delay
+    x.due.saturating_sub(x.settings.effective_delay() as u32)
 }
 
 // A refusal is the last step.

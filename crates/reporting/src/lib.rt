@@ -14,10 +14,7 @@ use terminal::report_kept;
 fn offset_after(heard: bool, offset: usize, end: usize) -> usize
     ensures { result ≡ cond heard end offset }
 {
-    if heard {
-        return end;
-    }
-    offset
+    if heard { end } else { offset }
 }
 
 // A step at a frame that ends at this place of the recording: it stops the player, or the slot due is lost, or it is reported.

@@ -20,9 +20,8 @@ pub fn begin(s: Settings, rows: &mut [u8], message: &mut [u8]) -> Player
 {
     let opened = receiver::open(s, 0, rows);
     clear(message);
-    let x = opened.state;
     Player {
-        receiver: x,
+        receiver: opened.state,
         offset: 0,
     }
 }
@@ -39,9 +38,7 @@ pub fn step(
     ensures { outcome result rows.new message.new line.new
         ≡ printed_on line.old (act_of p recording.now rows.old message.old) }
 {
-    let x = p.receiver;
-    let s = x.settings;
-    match next_frame(recording, p.offset, frame_len(s)) {
+    match next_frame(recording, p.offset, frame_len(p.receiver.settings)) {
         Found::End => Progress {
             player: p,
             len: 0,

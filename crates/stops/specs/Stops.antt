@@ -1,14 +1,14 @@
 -- Document 01, "Playing a recording": what stops a player before any line, and at a frame.
-use Rattle.std.specs.Prelude.{true, false, not, ◌||◌, List, [], ◌∷◌, ◌++◌, ℕ, ◌+◌, ◌%◌, eqb, ltb, length, Ok, Err}
+use Rattle.std.specs.Prelude.{true, false, not, ◌||◌, List, [], ◌∷◌, ◌++◌, ℕ, ◌+◌, ◌%◌, eqb, ltb, length, Option, Some, None, Result, Ok, Err}
+use Rattle.code.specs.declared.settings.Settings.{Settings}
 use Rattle.code.specs.Settings.{accepted}
 use Rattle.protocol.specs.declared.Receiver.{Receiver}
+use Rattle.protocol.specs.declared.Cause.{Cause}
 use Rattle.protocol.specs.declared.Cause.TheVariants.{BadSettings, BadLength, OtherSlot}
 use Rattle.protocol.specs.Answers.{Answer}
 use Rattle.protocol.specs.Lengths.{frame_len}
 use Rattle.protocol.specs.Causes.{Row, row, first_of, header_table}
 use Rattle.frames.specs.Fields.{settings_in, slot_in}
-use Rattle.stops.specs.declared.Start.{Start}
-use Rattle.stops.specs.declared.Start.TheVariants.{Empty, Stop, Play}
 
 -- ---- before any line
 
@@ -25,14 +25,14 @@ recording_table recording =
 unfoldable pub recording_cause : List ℕ → Answer
 recording_cause recording = first_of (recording_table recording)
 
--- how a recording starts: the tests before any line
-unfoldable pub start_of : List ℕ → Start
+-- how a recording starts, by the tests before any line: an empty one is not played, and another is refused or played with its settings
+unfoldable pub start_of : List ℕ → Result (Option Settings) Cause
 start_of recording =
     elim (eqb (length recording) 0) [
-      | true ↦ Empty
+      | true ↦ Ok None
       | false ↦ elim (recording_cause recording) [
-        | Err c ↦ Stop c
-        | Ok tt ↦ Play (settings_in recording)
+        | Err c ↦ Err c
+        | Ok tt ↦ Ok (Some (settings_in recording))
       ]
     ]
 

@@ -13,13 +13,9 @@ pub fn stop_of(x: Receiver, frame: &[u8]) -> Result<(), Cause>
     requires { 14 ≤ length frame.now }
     ensures { result ≡ frame_stop x frame.now }
 {
-    let s = x.settings;
-    header_cause(1, s, frame)?;
+    header_cause(1, x.settings, frame)?;
     let slot = slot_of(frame);
-    if slot < x.due {
-        return Err(Cause::OtherSlot);
-    }
-    if LONGEST_GAP < slot - x.due {
+    if slot < x.due || slot - x.due > LONGEST_GAP {
         return Err(Cause::OtherSlot);
     }
     Ok(())

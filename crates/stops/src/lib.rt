@@ -4,18 +4,5 @@
 mod frame;
 mod opening;
 
-use code::Settings;
 pub use frame::stop_of;
 pub use opening::examine;
-use protocol::Cause;
-
-// How a recording starts.
-#[derive(Clone, Copy)]
-pub enum Start {
-    // It is empty, and prints nothing.
-    Empty,
-    // It is refused before any line.
-    Stop(Cause),
-    // It is played with these settings.
-    Play(Settings),
-}

@@ -2,33 +2,30 @@
 ghost use Rattle.std.specs.Prelude.{◌≡◌};
 ghost use Rattle.stops.specs.Stops.{start_of};
 
-use crate::Start;
 use buffers::frame_len;
+use code::Settings;
 use frames::settings_at;
 use protocol::Cause;
 
 // The most that a recording may have: 64 KiB.
 const LONGEST: usize = 65536;
 
-// Whether a recording is empty, refused before any line, or played.
-pub fn examine(recording: &[u8]) -> Start
+// The settings that a recording is played with, if it is not empty, or the cause that refuses it before any line.
+pub fn examine(recording: &[u8]) -> Result<Option<Settings>, Cause>
     ensures { result ≡ start_of recording.now }
 {
-    if recording.len() == 0 {
-        return Start::Empty;
+    if recording.is_empty() {
+        return Ok(None);
     }
-    if recording.len() < 14 {
-        return Start::Stop(Cause::BadLength);
-    }
-    if LONGEST < recording.len() {
-        return Start::Stop(Cause::BadLength);
+    if recording.len() < 14 || recording.len() > LONGEST {
+        return Err(Cause::BadLength);
     }
     let s = settings_at(recording, 5);
     if !s.accepted() {
-        return Start::Stop(Cause::BadSettings);
+        return Err(Cause::BadSettings);
     }
     if recording.len() % frame_len(s) != 0 {
-        return Start::Stop(Cause::BadLength);
+        return Err(Cause::BadLength);
     }
-    Start::Play(s)
+    Ok(Some(s))
 }

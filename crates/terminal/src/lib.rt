@@ -20,9 +20,10 @@ fn reported(
         ≡ report_of x rows.old (report_in heard frame.now message.old) }
 {
     if heard {
-        return receiver::heard(x, rows, frame, message);
+        receiver::heard(x, rows, frame, message)
+    } else {
+        receiver::loss(x, rows, message)
     }
-    receiver::loss(x, rows, message)
 }
 
 // The same, with the receiver lent and moved on.

@@ -10,10 +10,10 @@ use Rattle.lines.proofs.write_stop_number.Goals as goal
 abbrev lent : List ℕ → ℕ → Line
 lent line len = record { line = line; len = len }
 
-pub returns-then-line-lt16 : goal.returns-then-line-lt16
-returns-then-line-lt16 c =
-    stop_stays c.args.n c.args.line.now (omega arith)
-
-pub returns : goal.returns
-returns c =
+pub returns-then-line-ge16 : goal.returns-then-line-ge16
+returns-then-line-ge16 c =
     ap₂ lent c.put_stop.ensures.1 c.put_stop.ensures.0 ∙ stop_lent c.args.n c.args.line.now (omega arith)
+
+pub returns-else-line-ge16 : goal.returns-else-line-ge16
+returns-else-line-ge16 c =
+    stop_stays c.args.n c.args.line.now (omega arith)

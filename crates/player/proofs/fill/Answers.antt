@@ -1,15 +1,37 @@
 -- While there is room a step prints behind what is printed so far; each leaves fewer steps.
 use borrow.Author.Tests.{leb-true, leb-false}
 use mathlib.Core.Path.{◌≡◌, refl, sym, ap, ◌∙◌, subst}
+use mathlib.Core.Bool.{Bool, true, false}
+use mathlib.Core.List.{List}
 use native.Mathlib.Omega.{arith}
-use Prim.Native.Nat.{◌+◌, ◌-◌, ◌*◌, ◌≤◌, ◌<◌}
+use Prim.Native.Nat.{ℕ, ◌+◌, ◌*◌, ◌≤◌, ◌<◌}
+use lib.Dec.{leb}
 use lib.ListN.{length}
 use Rattle.lines.specs.Lent.{longest}
+use Rattle.progress.specs.declared.Player.{Player}
 use Rattle.steps.specs.Steps.{act_of}
 use Rattle.reporting.specs.Outcomes.{Outcome, outcome, printed_on}
-use Rattle.player.proofs.FillLaws.{part, part_length, goes, full, fitting, onward, ended}
+use Rattle.player.proofs.FillLaws.{part_length, goes, full, fitting, onward, ended}
 use Rattle.player.proofs.StepsLeft.{steps_left, fewer}
 use Rattle.player.proofs.fill.Goals as goal
+
+-- what the test of the room says
+module _ (message : List ℕ) (left : ℕ) (test : Bool) (is : test ≡ leb (18 + 2 * length message) left) where
+  roomy : test ≡ true → longest message ≤ left
+  unfolding longest
+  roomy e = leb-true (18 + 2 * length message) left (sym is ∙ e)
+
+  narrow : test ≡ false → left < longest message
+  unfolding longest
+  narrow e = leb-false (18 + 2 * length message) left (sym is ∙ e)
+
+-- a step that is not the last leaves fewer
+falls : (p : Player) (recording rows message line : List ℕ) (o : Outcome) → o ≡ printed_on line (act_of p recording rows message)
+    → o.over ≡ false → steps_left recording o.player < steps_left recording p
+unfolding printed_on
+falls p recording rows message line o stepped more =
+    subst (λ (r : Outcome). steps_left recording r.player < steps_left recording p) (sym stepped)
+    (fewer p recording rows message (sym (ap (λ (r : Outcome). r.over) stepped) ∙ more))
 
 pub loop-rows-init : goal.loop-rows-init
 loop-rows-init c =
@@ -30,50 +52,47 @@ slice_bounds-step-end c =
 pub step-stepped-requires : goal.step-stepped-requires
 unfolding longest
 step-stepped-requires c =
-    let roomy : longest c.loop-rows.message ≤ length c.loop-rows.out - c.loop-rows.at = leb-true (18 + 2 * length c.loop-rows.message) (length c.loop-rows.out - c.loop-rows.at) (sym c.has_room.ensures ∙ c.loop-rows-test.true) in
-    omega (arith, roomy, part_length c.loop-rows.out c.loop-rows.at)
+    let l = c.loop-rows in
+    omega (arith, roomy l.message _ _ c.has_room.ensures c.loop-rows-test.true, part_length l.out l.at)
 
 pub overflow_add-at : goal.overflow_add-at
-unfolding longest
 overflow_add-at c =
-    let roomy : longest c.loop-rows.message ≤ length c.loop-rows.out - c.loop-rows.at = leb-true (18 + 2 * length c.loop-rows.message) (length c.loop-rows.out - c.loop-rows.at) (sym c.has_room.ensures ∙ c.loop-rows-test.true) in
-    let stepped : (outcome c.step-stepped.result c.step-stepped.new.rows c.step-stepped.new.message c.step-stepped.new.line) ≡ printed_on (part c.loop-rows.out c.loop-rows.at) (act_of c.loop-rows.q (c.args.recording.now) c.loop-rows.rows c.loop-rows.message) = c.step-stepped.ensures in
-    let wrote : c.step-stepped.result.len ≤ length c.loop-rows.out - c.loop-rows.at = fitting _ _ _ _ _ c.loop-rows.q c.loop-rows.at c.loop-rows.rows c.loop-rows.message c.loop-rows.out c.loop-rows.invariant.0 (roomy) ((outcome c.step-stepped.result c.step-stepped.new.rows c.step-stepped.new.message c.step-stepped.new.line)) (stepped)
-    c.step-stepped.auto.line in
-    record { fits = omega (arith, wrote, c.loop-rows.invariant.0.within, c.loop-rows.invariant.0.long) }
+    let l = c.loop-rows in
+    let f = c.step-stepped in
+    let room = roomy l.message _ _ c.has_room.ensures c.loop-rows-test.true in
+    let wrote = fitting _ _ _ _ _ l.q l.at l.rows l.message l.out l.invariant.0 room (outcome f.result f.new.rows f.new.message f.new.line)
+    f.ensures f.auto.line in
+    record { fits = omega (arith, wrote, l.invariant.0.within, l.invariant.0.long) }
 
 pub returns-then-stepped : goal.returns-then-stepped
-unfolding longest
 returns-then-stepped c =
-    let roomy : longest c.loop-rows.message ≤ length c.loop-rows.out - c.loop-rows.at = leb-true (18 + 2 * length c.loop-rows.message) (length c.loop-rows.out - c.loop-rows.at) (sym c.has_room.ensures ∙ c.loop-rows-test.true) in
-    let stepped : (outcome c.step-stepped.result c.step-stepped.new.rows c.step-stepped.new.message c.step-stepped.new.line) ≡ printed_on (part c.loop-rows.out c.loop-rows.at) (act_of c.loop-rows.q (c.args.recording.now) c.loop-rows.rows c.loop-rows.message) = c.step-stepped.ensures in
-    ended _ _ _ _ _ c.loop-rows.q c.loop-rows.at c.loop-rows.rows c.loop-rows.message c.loop-rows.out c.loop-rows.invariant.0 (roomy) ((outcome c.step-stepped.result c.step-stepped.new.rows c.step-stepped.new.message c.step-stepped.new.line)) (stepped)
-    c.step-stepped.auto.line c.if-stepped.true
+    let l = c.loop-rows in
+    let f = c.step-stepped in
+    let room = roomy l.message _ _ c.has_room.ensures c.loop-rows-test.true in
+    ended _ _ _ _ _ l.q l.at l.rows l.message l.out l.invariant.0 room (outcome f.result f.new.rows f.new.message f.new.line) f.ensures
+    f.auto.line c.if-stepped.true
 
 pub loop-rows-smaller : goal.loop-rows-smaller
-unfolding printed_on
 loop-rows-smaller c =
-    let stepped : (outcome c.step-stepped.result c.step-stepped.new.rows c.step-stepped.new.message c.step-stepped.new.line) ≡ printed_on (part c.loop-rows.out c.loop-rows.at) (act_of c.loop-rows.q (c.args.recording.now) c.loop-rows.rows c.loop-rows.message) = c.step-stepped.ensures in
-    let a = act_of c.loop-rows.q (c.args.recording.now) c.loop-rows.rows c.loop-rows.message in
-    let falls = fewer c.loop-rows.q (c.args.recording.now) c.loop-rows.rows c.loop-rows.message (sym (ap (λ (r : Outcome). r.over) (stepped)) ∙ c.if-stepped.false) in
-    subst (λ (r : Outcome). steps_left (c.args.recording.now) r.player < steps_left (c.args.recording.now) c.loop-rows.q) (sym (stepped)) falls
+    let l = c.loop-rows in
+    let f = c.step-stepped in
+    falls l.q c.args.recording.now l.rows l.message _ (outcome f.result f.new.rows f.new.message f.new.line) f.ensures c.if-stepped.false
 
 pub loop-rows-preserved : goal.loop-rows-preserved
-unfolding longest
 loop-rows-preserved c =
-    let roomy : longest c.loop-rows.message ≤ length c.loop-rows.out - c.loop-rows.at = leb-true (18 + 2 * length c.loop-rows.message) (length c.loop-rows.out - c.loop-rows.at) (sym c.has_room.ensures ∙ c.loop-rows-test.true) in
-    let stepped : (outcome c.step-stepped.result c.step-stepped.new.rows c.step-stepped.new.message c.step-stepped.new.line) ≡ printed_on (part c.loop-rows.out c.loop-rows.at) (act_of c.loop-rows.q (c.args.recording.now) c.loop-rows.rows c.loop-rows.message) = c.step-stepped.ensures in (
-      onward _ _ _ _ _ c.loop-rows.q c.loop-rows.at c.loop-rows.rows c.loop-rows.message c.loop-rows.out c.loop-rows.invariant.0 (roomy) ((outcome c.step-stepped.result c.step-stepped.new.rows c.step-stepped.new.message c.step-stepped.new.line)) (stepped)
-          c.step-stepped.auto.line c.if-stepped.false,
-      c.step-stepped.auto.rows ∙ c.loop-rows.invariant.1,
-      c.step-stepped.auto.message ∙ c.loop-rows.invariant.2,
+    let l = c.loop-rows in
+    let f = c.step-stepped in
+    let room = roomy l.message _ _ c.has_room.ensures c.loop-rows-test.true in (
+      onward _ _ _ _ _ l.q l.at l.rows l.message l.out l.invariant.0 room (outcome f.result f.new.rows f.new.message f.new.line) f.ensures
+          f.auto.line c.if-stepped.false,
+      f.auto.rows ∙ l.invariant.1,
+      f.auto.message ∙ l.invariant.2,
     )
 
 pub returns : goal.returns
-unfolding longest
 returns c =
-    full _ _ _ _ _ c.loop-rows.q c.loop-rows.at c.loop-rows.rows c.loop-rows.message c.loop-rows.out c.loop-rows.invariant.0
-    (leb-false (18 + 2 * length c.loop-rows.message) (length c.loop-rows.out - c.loop-rows.at) (sym c.has_room.ensures ∙ c.loop-rows-test.false))
+    let l = c.loop-rows in
+    full _ _ _ _ _ l.q l.at l.rows l.message l.out l.invariant.0 (narrow l.message _ _ c.has_room.ensures c.loop-rows-test.false)
 
 pub overflow_sub-out : goal.overflow_sub-out
 overflow_sub-out c =

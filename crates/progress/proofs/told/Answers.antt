@@ -1,6 +1,5 @@
 -- There is room, so the line is that of the report.
 use mathlib.Core.Path.{refl, ap, ◌∙◌}
-use mathlib.Core.Bool.{not}
 use Prim.Native.Nat.{ℕ}
 use lib.ListN.{length}
 use Rattle.lines.specs.Text.{line_of, written}

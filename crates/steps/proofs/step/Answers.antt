@@ -1,16 +1,33 @@
 -- Each way out is one case of what stands at the player's offset.
 use mathlib.Core.Path.{◌≡◌, sym, ap, ◌∙◌}
+use mathlib.Core.List.{List}
 use native.Mathlib.Omega.{arith}
-use Prim.Native.Nat.{◌+◌, ◌-◌, ◌≤◌, ◌<◌}
+use Prim.Native.Nat.{ℕ, ◌+◌, ◌-◌, ◌≤◌, ◌<◌}
 use lib.ListN.{length, drop, length-take, length-drop}
 use Rattle.protocol.specs.Lengths.{frame_len}
 use Rattle.protocol.specs.declared.Cause.TheVariants.{BadLength}
+use Rattle.recording.specs.declared.Found.{Found}
+use Rattle.recording.specs.declared.Found.TheVariants.{Frame}
 use Rattle.recording.specs.Found.{found_at}
 use Rattle.recording.proofs.FoundLaws.{frame_says}
 use Rattle.reporting.specs.Outcomes.{printed_on}
 use Rattle.reporting.proofs.FrameOutcomes.{stop_line_lem}
+use Rattle.progress.specs.declared.Player.{Player}
 use Rattle.steps.proofs.StepOutcomes.{ends, parts, stands, end_line}
 use Rattle.steps.proofs.step.Goals as goal
+
+-- what the code found stands at the offset
+module _ (recording : List ℕ) (p : Player) (r : Found) (size : ℕ) (found : r ≡ found_at recording p.offset size)
+    (sized : size ≡ frame_len p.receiver.settings) where
+  stands_there : (f : Found) → r ≡ f → found_at recording p.offset (frame_len p.receiver.settings) ≡ f
+  stands_there f is = sym (found ∙ ap (found_at recording p.offset) sized) ∙ is
+
+  -- a frame lies within the recording
+  framed : (start end : ℕ) → r ≡ Frame start end
+      → (start ≡ p.offset) × (end ≡ p.offset + frame_len p.receiver.settings)
+      × (p.offset + frame_len p.receiver.settings ≤ length recording) × (0 < frame_len p.receiver.settings)
+  framed start end is =
+      frame_says recording p.offset (frame_len p.receiver.settings) start end (stands_there (Frame start end) is)
 
 pub stopped-requires : goal.stopped-requires
 stopped-requires c =
@@ -18,58 +35,55 @@ stopped-requires c =
 
 pub slice_bounds-at_frame-start : goal.slice_bounds-at_frame-start
 slice_bounds-at_frame-start c =
-    let found : c.next_frame.result ≡ found_at c.args.recording.now c.args.p.offset (frame_len c.args.p.receiver.settings) = c.next_frame.ensures ∙ ap (found_at c.args.recording.now c.args.p.offset) c.frame_len.ensures in
-    let said : let size = frame_len c.args.p.receiver.settings in
-    (c.in-Frame.start ≡ c.args.p.offset) × (c.in-Frame.end ≡ c.args.p.offset + size) × (c.args.p.offset + size ≤ length c.args.recording.now) × (0 < size) = frame_says c.args.recording.now c.args.p.offset (frame_len c.args.p.receiver.settings) c.in-Frame.start c.in-Frame.end
-    (sym (found) ∙ c.in-Frame.is) in
-    omega (arith, said)
+    let f = c.in-Frame in
+    omega (arith, framed c.args.recording.now c.args.p _ _ c.next_frame.ensures c.frame_len.ensures f.start f.end f.is)
 
 pub slice_bounds-at_frame-count : goal.slice_bounds-at_frame-count
 slice_bounds-at_frame-count c =
-    let found : c.next_frame.result ≡ found_at c.args.recording.now c.args.p.offset (frame_len c.args.p.receiver.settings) = c.next_frame.ensures ∙ ap (found_at c.args.recording.now c.args.p.offset) c.frame_len.ensures in
-    let said : let size = frame_len c.args.p.receiver.settings in
-    (c.in-Frame.start ≡ c.args.p.offset) × (c.in-Frame.end ≡ c.args.p.offset + size) × (c.args.p.offset + size ≤ length c.args.recording.now) × (0 < size) = frame_says c.args.recording.now c.args.p.offset (frame_len c.args.p.receiver.settings) c.in-Frame.start c.in-Frame.end
-    (sym (found) ∙ c.in-Frame.is) in
-    omega (arith, said)
+    let f = c.in-Frame in
+    omega (arith, framed c.args.recording.now c.args.p _ _ c.next_frame.ensures c.frame_len.ensures f.start f.end f.is)
 
 pub slice_bounds-at_frame-end : goal.slice_bounds-at_frame-end
 slice_bounds-at_frame-end c =
-    let found : c.next_frame.result ≡ found_at c.args.recording.now c.args.p.offset (frame_len c.args.p.receiver.settings) = c.next_frame.ensures ∙ ap (found_at c.args.recording.now c.args.p.offset) c.frame_len.ensures in
-    let said : let size = frame_len c.args.p.receiver.settings in
-    (c.in-Frame.start ≡ c.args.p.offset) × (c.in-Frame.end ≡ c.args.p.offset + size) × (c.args.p.offset + size ≤ length c.args.recording.now) × (0 < size) = frame_says c.args.recording.now c.args.p.offset (frame_len c.args.p.receiver.settings) c.in-Frame.start c.in-Frame.end
-    (sym (found) ∙ c.in-Frame.is) in
-    omega (arith, said)
+    let f = c.in-Frame in
+    omega (arith, framed c.args.recording.now c.args.p _ _ c.next_frame.ensures c.frame_len.ensures f.start f.end f.is)
 
 pub at_frame-requires : goal.at_frame-requires
 unfolding frame_len
 at_frame-requires c =
-    let found : c.next_frame.result ≡ found_at c.args.recording.now c.args.p.offset (frame_len c.args.p.receiver.settings) = c.next_frame.ensures ∙ ap (found_at c.args.recording.now c.args.p.offset) c.frame_len.ensures in
-    let said : let size = frame_len c.args.p.receiver.settings in
-    (c.in-Frame.start ≡ c.args.p.offset) × (c.in-Frame.end ≡ c.args.p.offset + size) × (c.args.p.offset + size ≤ length c.args.recording.now) × (0 < size) = frame_says c.args.recording.now c.args.p.offset (frame_len c.args.p.receiver.settings) c.in-Frame.start c.in-Frame.end
-    (sym (found) ∙ c.in-Frame.is) in (
-      omega (arith, said, length-take (c.in-Frame.end - c.in-Frame.start) (drop c.in-Frame.start c.args.recording.now), length-drop c.in-Frame.start c.args.recording.now),
+    let f = c.in-Frame in
+    let recording = c.args.recording.now in (
+      omega (
+        arith,
+        framed recording c.args.p _ _ c.next_frame.ensures c.frame_len.ensures f.start f.end f.is,
+        length-take (f.end - f.start) (drop f.start recording),
+        length-drop f.start recording,
+      ),
       c.requires,
     )
 
 pub returns-in-End : goal.returns-in-End
 returns-in-End c =
-    let found : c.next_frame.result ≡ found_at c.args.recording.now c.args.p.offset (frame_len c.args.p.receiver.settings) = c.next_frame.ensures ∙ ap (found_at c.args.recording.now c.args.p.offset) c.frame_len.ensures in
-    end_line c.args.line.now c.args.p c.args.rows.now c.args.message.now
-    ∙ ap (printed_on c.args.line.now)
-    (ends c.args.p c.args.recording.now c.args.rows.now c.args.message.now (sym (found) ∙ c.in-End.is))
+    let a = c.args in
+    end_line a.line.now a.p a.rows.now a.message.now
+    ∙ ap (printed_on a.line.now)
+    (ends a.p a.recording.now a.rows.now a.message.now
+    (stands_there a.recording.now a.p _ _ c.next_frame.ensures c.frame_len.ensures _ c.in-End.is))
 
 pub returns-in-Part : goal.returns-in-Part
 returns-in-Part c =
-    let found : c.next_frame.result ≡ found_at c.args.recording.now c.args.p.offset (frame_len c.args.p.receiver.settings) = c.next_frame.ensures ∙ ap (found_at c.args.recording.now c.args.p.offset) c.frame_len.ensures in
-    stop_line_lem c.args.line.now _ _ _ _ c.args.p c.args.rows.now c.args.message.now BadLength
-    c.stopped.ensures.player c.stopped.ensures.len c.stopped.ensures.over c.stopped.ensures.line
-    ∙ ap (printed_on c.args.line.now)
-    (parts c.args.p c.args.recording.now c.args.rows.now c.args.message.now (sym (found) ∙ c.in-Part.is))
+    let a = c.args in
+    let f = c.stopped.ensures in
+    stop_line_lem a.line.now _ _ _ _ a.p a.rows.now a.message.now BadLength f.player f.len f.over f.line
+    ∙ ap (printed_on a.line.now)
+    (parts a.p a.recording.now a.rows.now a.message.now
+    (stands_there a.recording.now a.p _ _ c.next_frame.ensures c.frame_len.ensures _ c.in-Part.is))
 
 pub returns-in-Frame : goal.returns-in-Frame
 returns-in-Frame c =
-    let found : c.next_frame.result ≡ found_at c.args.recording.now c.args.p.offset (frame_len c.args.p.receiver.settings) = c.next_frame.ensures ∙ ap (found_at c.args.recording.now c.args.p.offset) c.frame_len.ensures in
+    let a = c.args in
+    let f = c.in-Frame in
     c.at_frame.ensures
-    ∙ ap (printed_on c.args.line.now)
-    (stands c.args.p c.args.recording.now c.args.rows.now c.args.message.now c.in-Frame.start c.in-Frame.end
-    (sym (found) ∙ c.in-Frame.is))
+    ∙ ap (printed_on a.line.now)
+    (stands a.p a.recording.now a.rows.now a.message.now f.start f.end
+    (stands_there a.recording.now a.p _ _ c.next_frame.ensures c.frame_len.ensures _ f.is))
