@@ -28,7 +28,8 @@ module _ (about : ℕ) (reply : Reply) (message line : List ℕ) where
   line_lent h = rw (le-ltb (length line) (longest message) h, line_on)
 
   -- so these are the parts of what is given back
-  pub line_parts : (now : List ℕ) (len : ℕ) → record { line = now; len = len } ≡ line_on about reply message line → longest message ≤ length line
+  pub line_parts : (now : List ℕ) (len : ℕ) → record { line = now; len = len } ≡ line_on about reply message line
+      → longest message ≤ length line
       → (len ≡ length (line_of about reply message)) × (now ≡ written (line_of about reply message) line)
   line_parts now len e h =
       let lent = e ∙ sym (line_lent h) in

@@ -63,7 +63,8 @@ module _ (about : ℕ) (message line : List ℕ) (room : 18 + 2 * length message
       (omega (arith, word_fits about, hex_length message))
 
   -- the whole line is written
-  pub whole_written : (end + 1 ≡ length (line_of about (Ok Whole) message)) × (set whole end 10 ≡ written (line_of about (Ok Whole) message) line)
+  pub whole_written : (end + 1 ≡ length (line_of about (Ok Whole) message))
+      × (set whole end 10 ≡ written (line_of about (Ok Whole) message) line)
   unfolding line_of
   whole_written =
       let text : List ℕ = decimal about ++ whole_word ++ hex message in

@@ -17,7 +17,8 @@ pub fn has_room(line: usize, message: usize) -> bool
     line >= 18 && (line - 18) / 2 >= message
 }
 
-// The line of a report, and how long it is: 0 where the lent line has no room for the longest.
+// The line of a report, and how long it is: 0 where the lent line has no room for the longest. The 0 is the length of what is printed, as
+// `line_on` has it, and no number for a refusal.
 pub fn write_line(about: u32, reply: Result<Told, Cause>, message: &[u8], line: &mut [u8]) -> usize
     ensures { record { line = line.new; len = result } ≡ line_on about reply message.now line.old }
 {

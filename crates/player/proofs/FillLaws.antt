@@ -101,7 +101,13 @@ module _ (recording : List ℕ) (p : Player) (rows₀ message₀ out₀ : List �
         ≡ filled_of p recording rows₀ message₀ out₀
     unfolding filled_of printed_on no_act after
     full short =
-        rw (going.whole, gathered_none recording (length out - at) q rows message short, append-nil, on_lent, length-take-le at out going.within) refl
+        rw (
+          going.whole,
+          gathered_none recording (length out - at) q rows message short,
+          append-nil,
+          on_lent,
+          length-take-le at out going.within,
+        ) refl
 
     module _ (fits : longest message ≤ length out - at) (a : Act) (is : act_of q recording rows message ≡ a)
         (short : length a.text ≤ length out - at) where
@@ -150,7 +156,8 @@ module _ (recording : List ℕ) (p : Player) (rows₀ message₀ out₀ : List �
       pub fitting : o.len ≤ length out - at
       fitting =
           let a = act_of q recording rows message in
-          let same : length (printed_on (part out at) a).out ≡ length (part out at) = sym (ap (λ (r : Outcome). length r.out) stepped) ∙ kept in
+          let same : length (printed_on (part out at) a).out ≡ length (part out at) =
+          sym (ap (λ (r : Outcome). length r.out) stepped) ∙ kept in
           omega (arith, print_fits (part out at) a same, part_length out at, ap (λ (r : Outcome). r.len) stepped)
 
       short : length (act_of q recording rows message).text ≤ length out - at

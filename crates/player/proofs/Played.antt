@@ -31,7 +31,8 @@ handed_text : (out : List ℕ) (a : Act) → handed_out (printed_on out a) ≡ a
 unfolding printed_on written
 handed_text out a = take_at a.text (drop (length a.text) out) (length a.text) refl
 
--- a text by the steps that fill the buffer before buffer i: it is theirs, and they are the last; or the fillings from i on hand out the rest
+-- a text by the steps that fill the buffer before buffer i: it is theirs, and they are the last; or the fillings from i on hand out
+-- the rest
 data HandedOn (recording : List ℕ) (buffer : ℕ → List ℕ) (i : ℕ) (a : Act) : List ℕ → Type 0 where
   done : a.over ≡ true → HandedOn recording buffer i a a.text
   more : (rest : List ℕ) → a.over ≡ false → Fillings recording buffer i a.player a.rows a.message rest

@@ -131,7 +131,8 @@ pieces_steps recording (suc m) offset y rows message left =
 -- a recording that passes, from its start: the steps print what it prints, and end
 pub from_start : (recording rows message : List ℕ) (s : Settings) → T (accepted s) → length recording % frame_len s ≡ 0
     → length rows ≡ receiver_len s → length message ≡ message_len s
-    → Steps recording (begin_of s rows message).player (begin_of s rows message).rows (begin_of s rows message).message (played_from s recording)
+    → Steps recording (begin_of s rows message).player (begin_of s rows message).rows (begin_of s rows message).message
+    (played_from s recording)
 unfolding begin_of played_from
 from_start recording rows message s ok whole rows_exact message_exact =
     let frames : ℕ = length recording / frame_len s in

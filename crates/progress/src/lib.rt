@@ -21,7 +21,7 @@ pub struct Player {
 pub struct Progress {
     pub player: Player,
     pub len: usize,
-    // The recording is played, or a refusal has ended it.
+    // The recording is played, or a refusal has ended it. The lines of the last step count too, so it stays beside them, as in `Playing`.
     pub over: bool,
 }
 

@@ -52,7 +52,8 @@ module _ (line : List ℕ) (q : Player) (now : List ℕ) (len : ℕ) (over : Boo
   -- a refusal
   pub stop_line_lem : (p : Player) (rows message : List ℕ) (c : Cause)
       → q ≡ p → len ≡ length (stop_line c) → over ≡ true → now ≡ written (stop_line c) line
-      → record { player = q; rows = rows; message = message; out = now; len = len; over = over } ≡ printed_on line (stop_act p rows message c)
+      → record { player = q; rows = rows; message = message; out = now; len = len; over = over }
+      ≡ printed_on line (stop_act p rows message c)
   unfolding stop_act
   stop_line_lem p rows message c = on_line (stop_act p rows message c)
 
@@ -62,6 +63,7 @@ module _ (line : List ℕ) (q : Player) (now : List ℕ) (len : ℕ) (over : Boo
       → len ≡ length (line_of (message_due x.settings x.due) r.reply r.message)
       → over ≡ refuses r.reply
       → now ≡ written (line_of (message_due x.settings x.due) r.reply r.message) line
-      → record { player = q; rows = r.rows; message = r.message; out = now; len = len; over = over } ≡ printed_on line (report_act x offset r)
+      → record { player = q; rows = r.rows; message = r.message; out = now; len = len; over = over }
+      ≡ printed_on line (report_act x offset r)
   unfolding report_act
   report_line x offset r = on_line (report_act x offset r)

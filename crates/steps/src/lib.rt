@@ -26,7 +26,8 @@ pub fn begin(s: Settings, rows: &mut [u8], message: &mut [u8]) -> Player
     }
 }
 
-// One step: a report, and its line.
+// One step: a report, and its line. Rows, message and line stay three parameters: the line alone moves on from step to step, and
+// `printed_on` speaks of each.
 pub fn step(
     p: Player,
     recording: &[u8],

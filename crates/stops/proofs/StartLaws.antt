@@ -68,7 +68,8 @@ module _ (recording : List ℕ) where
                 eq-eqb (length recording % frame_len (settings_in recording)) 0 e,
               )
 
-          pub starts_whole : length recording % frame_len (settings_in recording) ≡ 0 → Ok (Some (settings_in recording)) ≡ start_of recording
+          pub starts_whole : length recording % frame_len (settings_in recording) ≡ 0
+              → Ok (Some (settings_in recording)) ≡ start_of recording
           unfolding start_of
           starts_whole e = rw (ne_eqb (length recording) 0 some, whole e, start_of)
 
@@ -91,7 +92,10 @@ unfolding recording_cause
 passed recording e =
     let whole : Bool = eqb (length recording % frame_len (settings_in recording)) 0 in
     let free = all-clear (recording_table recording) e in
-    (passes (accepted (settings_in recording)) free.1.0, eqb-true (length recording % frame_len (settings_in recording)) 0 (not-false whole free.1.1.0))
+    (
+      passes (accepted (settings_in recording)) free.1.0,
+      eqb-true (length recording % frame_len (settings_in recording)) 0 (not-false whole free.1.1.0),
+    )
 
 -- its settings are accepted
 pub play_accepted : (recording : List ℕ) (s : Settings) → start_of recording ≡ Ok (Some s) → T (accepted s)
@@ -106,6 +110,7 @@ play_accepted recording s e = go (eqb (length recording) 0) refl (recording_caus
         let no : ◌≡◌ {A = Result (Option Settings) Cause} (Err c) (Ok (Some s)) = rw (some, found, start_of) at e in
         let z : ◌≡◌ {A = ℕ} 0 1 = cc in absurd (omega arith)
     go false some (Ok tt) found =
-        let own : ◌≡◌ {A = Result (Option Settings) Cause} (Ok (Some (settings_in recording))) (Ok (Some s)) = rw (some, found, start_of) at e in
+        let own : ◌≡◌ {A = Result (Option Settings) Cause} (Ok (Some (settings_in recording))) (Ok (Some s)) =
+        rw (some, found, start_of) at e in
         let same : settings_in recording ≡ s = cc in
         subst (λ (t : Settings). T (accepted t)) same (passed recording found).0

@@ -11,7 +11,8 @@ use Rattle.reporting.specs.Outcomes.{printed_on}
 use Rattle.reporting.proofs.FrameOutcomes.{frame_stops, frame_reports, stop_line_lem, report_line}
 use Rattle.reporting.proofs.at_frame.Goals as goal
 
-fits_kept : (before after line : List ℕ) → length after ≡ length before → 18 + 2 * length before ≤ length line → 18 + 2 * length after ≤ length line
+fits_kept : (before after line : List ℕ) → length after ≡ length before → 18 + 2 * length before ≤ length line
+    → 18 + 2 * length after ≤ length line
 fits_kept before after line same fits = omega arith
 
 pub returns-in-Err : goal.returns-in-Err
@@ -30,7 +31,8 @@ pub returns : goal.returns
 returns c =
     report_line c.args.line.now _ _ _ _ c.args.p.receiver c.offset_after.result _
     c.told.ensures.player c.told.ensures.len c.told.ensures.over c.told.ensures.line
-    ∙ ap₂ (λ (offset : ℕ) (r : Reported). printed_on c.args.line.now (report_act c.args.p.receiver offset r)) c.offset_after.ensures c.report_kept-r.ensures
+    ∙ ap₂ (λ (offset : ℕ) (r : Reported). printed_on c.args.line.now (report_act c.args.p.receiver offset r))
+    c.offset_after.ensures c.report_kept-r.ensures
     ∙ ap (printed_on c.args.line.now)
     (frame_reports c.args.p c.args.frame.now c.args.end c.args.rows.now c.args.message.now
     (sym c.stop_of.ensures ∙ c.in_default.is)

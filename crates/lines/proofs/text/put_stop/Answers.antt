@@ -25,7 +25,7 @@ pub bounds-line-at : goal.bounds-line-at
 unfolding written
 bounds-line-at c =
     let begun : c.write_at.new.out ≡ written stop_word c.args.line.now = c.write_at.ensures in
-    let same : length c.write_decimal-at.new.line ≡ length c.args.line.now = number_length c.args.line.now c.requires c.args.n c.write_decimal-at.result c.write_at.new.out
+    let same = number_length c.args.line.now c.requires c.args.n c.write_decimal-at.result c.write_at.new.out
     c.write_decimal-at.new.line c.write_decimal-at.ensures.0 (begun) c.write_decimal-at.ensures.1 in
     let short : c.write_decimal-at.result ≤ 15 = omega (arith, c.write_decimal-at.ensures.0, decimal_length c.args.n) in
     omega (arith, c.requires, same, short)
@@ -39,7 +39,7 @@ pub shape_of-line : goal.shape_of-line
 unfolding written
 shape_of-line c =
     let begun : c.write_at.new.out ≡ written stop_word c.args.line.now = c.write_at.ensures in
-    let same : length c.write_decimal-at.new.line ≡ length c.args.line.now = number_length c.args.line.now c.requires c.args.n c.write_decimal-at.result c.write_at.new.out
+    let same = number_length c.args.line.now c.requires c.args.n c.write_decimal-at.result c.write_at.new.out
     c.write_decimal-at.new.line c.write_decimal-at.ensures.0 (begun) c.write_decimal-at.ensures.1 in
     length-set c.write_decimal-at.new.line c.write_decimal-at.result 10 ∙ same
 

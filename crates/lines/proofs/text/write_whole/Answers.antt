@@ -19,20 +19,22 @@ write_hex-end-requires c =
 
 pub bounds-line-end : goal.bounds-line-end
 bounds-line-end c =
-    let same : length c.write_hex-end.new.line ≡ length c.args.line.now = digits_length c.args.about c.args.message.now c.args.line.now c.requires c.write_word-start.result c.write_hex-end.result
+    let same = digits_length c.args.about c.args.message.now c.args.line.now c.requires c.write_word-start.result c.write_hex-end.result
     c.write_word-start.new.line c.write_hex-end.new.line c.write_word-start.ensures.0 c.write_hex-end.ensures.0
     c.write_word-start.ensures.1 c.write_hex-end.ensures.1 in
-    let short : c.write_hex-end.result ≤ 17 + 2 * length c.args.message.now = omega (arith, c.write_hex-end.ensures.0, c.write_word-start.ensures.0, word_fits c.args.about, hex_length c.args.message.now) in
+    let short : c.write_hex-end.result ≤ 17 + 2 * length c.args.message.now =
+    omega (arith, c.write_hex-end.ensures.0, c.write_word-start.ensures.0, word_fits c.args.about, hex_length c.args.message.now) in
     omega (arith, c.requires, same, short)
 
 pub overflow_add-result : goal.overflow_add-result
 overflow_add-result c =
-    let short : c.write_hex-end.result ≤ 17 + 2 * length c.args.message.now = omega (arith, c.write_hex-end.ensures.0, c.write_word-start.ensures.0, word_fits c.args.about, hex_length c.args.message.now) in
+    let short : c.write_hex-end.result ≤ 17 + 2 * length c.args.message.now =
+    omega (arith, c.write_hex-end.ensures.0, c.write_word-start.ensures.0, word_fits c.args.about, hex_length c.args.message.now) in
     omega (arith, c.requires, short)
 
 pub shape_of-line : goal.shape_of-line
 shape_of-line c =
-    let same : length c.write_hex-end.new.line ≡ length c.args.line.now = digits_length c.args.about c.args.message.now c.args.line.now c.requires c.write_word-start.result c.write_hex-end.result
+    let same = digits_length c.args.about c.args.message.now c.args.line.now c.requires c.write_word-start.result c.write_hex-end.result
     c.write_word-start.new.line c.write_hex-end.new.line c.write_word-start.ensures.0 c.write_hex-end.ensures.0
     c.write_word-start.ensures.1 c.write_hex-end.ensures.1 in
     length-set c.write_hex-end.new.line c.write_hex-end.result 10 ∙ same

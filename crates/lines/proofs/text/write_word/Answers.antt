@@ -18,21 +18,21 @@ write_decimal-at-requires c =
 
 pub write_at-requires : goal.write_at-requires
 write_at-requires c =
-    let ended : c.write_decimal-at.result ≡ length (decimal c.args.about) = c.write_decimal-at.ensures.0 ∙ zero-add (length (decimal c.args.about)) in
-    let begun : c.write_decimal-at.new.line ≡ written (decimal c.args.about) c.args.line.now = c.write_decimal-at.ensures.1 ∙ put_written (decimal c.args.about) c.args.line.now in
+    let ended = c.write_decimal-at.ensures.0 ∙ zero-add (length (decimal c.args.about)) in
+    let begun = c.write_decimal-at.ensures.1 ∙ put_written (decimal c.args.about) c.args.line.now in
     let short : length (decimal c.args.about) ≤ 10 = decimal_length c.args.about in
     omega (arith, ended, ap length (begun), written_length (decimal c.args.about) c.args.line.now (omega arith))
 
 pub overflow_add-result : goal.overflow_add-result
 overflow_add-result c =
-    let ended : c.write_decimal-at.result ≡ length (decimal c.args.about) = c.write_decimal-at.ensures.0 ∙ zero-add (length (decimal c.args.about)) in
+    let ended = c.write_decimal-at.ensures.0 ∙ zero-add (length (decimal c.args.about)) in
     omega (arith, ended, decimal_length c.args.about)
 
 pub shape_of-line : goal.shape_of-line
 unfolding put
 shape_of-line c =
-    let ended : c.write_decimal-at.result ≡ length (decimal c.args.about) = c.write_decimal-at.ensures.0 ∙ zero-add (length (decimal c.args.about)) in
-    let begun : c.write_decimal-at.new.line ≡ written (decimal c.args.about) c.args.line.now = c.write_decimal-at.ensures.1 ∙ put_written (decimal c.args.about) c.args.line.now in
+    let ended = c.write_decimal-at.ensures.0 ∙ zero-add (length (decimal c.args.about)) in
+    let begun = c.write_decimal-at.ensures.1 ∙ put_written (decimal c.args.about) c.args.line.now in
     joined_length (decimal c.args.about) c.args.word.now c.args.line.now c.write_decimal-at.result c.write_decimal-at.new.line
     c.write_at.new.out (ended) (begun) c.write_at.ensures
     (omega (arith, ended, decimal_length c.args.about))
@@ -40,9 +40,11 @@ shape_of-line c =
 pub returns : goal.returns
 unfolding put
 returns c =
-    let ended : c.write_decimal-at.result ≡ length (decimal c.args.about) = c.write_decimal-at.ensures.0 ∙ zero-add (length (decimal c.args.about)) in
-    let begun : c.write_decimal-at.new.line ≡ written (decimal c.args.about) c.args.line.now = c.write_decimal-at.ensures.1 ∙ put_written (decimal c.args.about) c.args.line.now in
+    let ended = c.write_decimal-at.ensures.0 ∙ zero-add (length (decimal c.args.about)) in
+    let begun = c.write_decimal-at.ensures.1 ∙ put_written (decimal c.args.about) c.args.line.now in
     let text : List ℕ = decimal c.args.about in (
-      joined_end text c.args.word.now c.args.line.now c.write_decimal-at.result c.write_decimal-at.new.line c.write_at.new.out (ended) (begun) c.write_at.ensures,
-      joined text c.args.word.now c.args.line.now c.write_decimal-at.result c.write_decimal-at.new.line c.write_at.new.out (ended) (begun) c.write_at.ensures,
+      joined_end text c.args.word.now c.args.line.now c.write_decimal-at.result c.write_decimal-at.new.line
+          c.write_at.new.out ended begun c.write_at.ensures,
+      joined text c.args.word.now c.args.line.now c.write_decimal-at.result c.write_decimal-at.new.line
+          c.write_at.new.out ended begun c.write_at.ensures,
     )

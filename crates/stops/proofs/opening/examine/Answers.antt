@@ -10,7 +10,8 @@ use Rattle.code.specs.declared.settings.Settings.{Settings}
 use Rattle.code.specs.Settings.{accepted}
 use Rattle.protocol.specs.Lengths.{frame_len}
 use Rattle.stops.proofs.StartLaws.{starts_empty, starts_short, starts_long, starts_refused, starts_part, starts_whole}
-use Rattle.stops.proofs.opening.examine.Goals.{then-recording-lt14-via-then-recording-lt14, then-recording-lt14-via-else-recording-lt14+then-recording-gt-LONGEST}
+use Rattle.stops.proofs.opening.examine.Goals.{then-recording-lt14-via-then-recording-lt14}
+use Rattle.stops.proofs.opening.examine.Goals.{then-recording-lt14-via-else-recording-lt14+then-recording-gt-LONGEST}
 use Rattle.stops.proofs.opening.examine.Goals as goal
 
 pub returns-then-is_empty : goal.returns-then-is_empty

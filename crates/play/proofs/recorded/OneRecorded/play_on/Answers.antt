@@ -23,7 +23,8 @@ pub returns-clause-len : goal.returns-clause-len
 returns-clause-len c =
     let a = c.args in
     let f = c.fill in
-    made_fits a.p a.self.now.0.now a.rows.now a.message.now a.out.now (outcome f.result f.new.rows f.new.message f.new.out) f.ensures f.auto.out
+    made_fits a.p a.self.now.0.now a.rows.now a.message.now a.out.now (outcome f.result f.new.rows f.new.message f.new.out) f.ensures
+    f.auto.out
 
 pub returns-clause-more : goal.returns-clause-more
 unfolding longest

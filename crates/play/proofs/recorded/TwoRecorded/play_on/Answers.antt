@@ -7,7 +7,8 @@ use Rattle.pairplay.specs.Steps.{pair_step_of}
 use Rattle.pairplay.proofs.Left.{pair_left, pair_fewer, pair_kept, pair_fits}
 use Rattle.play.proofs.recorded.TwoRecorded.play_on.Goals as goal
 
-module _ (p : Player) (first second rows message line : List ℕ) (made : Outcome) (stepped : made ≡ pair_step_of p first second rows message line) where
+module _ (p : Player) (first second rows message line : List ℕ)
+    (made : Outcome) (stepped : made ≡ pair_step_of p first second rows message line) where
   made_fits : made.len ≤ 18 + 2 * length message
   unfolding pair_step_of printed_on
   made_fits = subst (λ (r : Outcome). r.len ≤ 18 + 2 * length message) (sym stepped) (pair_fits p first second rows message)
@@ -16,7 +17,8 @@ module _ (p : Player) (first second rows message line : List ℕ) (made : Outcom
   unfolding pair_step_of printed_on
   made_kept = ap (λ (r : Outcome). r.player.receiver.settings) stepped ∙ pair_kept p first second rows message
 
-  made_fewer : pair_cause p.receiver.settings first second ≡ 0 → made.over ≡ false → pair_left first second made.player < pair_left first second p
+  made_fewer : pair_cause p.receiver.settings first second ≡ 0 → made.over ≡ false
+      → pair_left first second made.player < pair_left first second p
   unfolding pair_step_of printed_on
   made_fewer accepted more =
       subst (λ (r : Outcome). pair_left first second r.player < pair_left first second p) (sym stepped)
