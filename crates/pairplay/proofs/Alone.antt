@@ -332,7 +332,8 @@ module _ (recording : List ℕ) (some : length recording ≢ 0) where
     alone_marked =
         let (headed, right, ok, frames) = clear in
         let zeros : List ℕ = replicate (receiver_len s) 0 in
-        let opens = opened_receiver_lem s 0 zeros record { settings = ok; exact = length-replicate (receiver_len s) 0; in_time_lem = zero-le } in
+        let opens = opened_receiver_lem s 0 zeros
+        record { settings = ok; exact = length-replicate (receiver_len s) 0; in_time_lem = zero-le } in
         rw (ne_eqb (length recording) 0 some, found, transcript) (rw opens (go (length recording / frame_len s) refl))
       where
         go : (m : ℕ) → length recording / frame_len s ≡ m

@@ -68,7 +68,8 @@ module _ (s : Settings) (first second recording : List ℕ) (b : Beside s first 
   -- before its last frame, slot by slot: the slot due is reported by what is lent for it
   slot_first : (d n : ℕ) → d ≤ n → n ≤ d + 4095 → has s recording n ≡ true → (rows message : List ℕ)
       → slots_from d rows message
-      ≡ and_then (at d) (report_of (at d) rows (fed_by (lent s first second d) message)) (fed_on s first second (slots_in s recording - (d + 1)))
+      ≡ and_then (at d) (report_of (at d) rows (fed_by (lent s first second d) message))
+      (fed_on s first second (slots_in s recording - (d + 1)))
   unfolding fed_on
   slot_first d n onward near there rows message =
       let within = has_within s recording rises n there in

@@ -131,5 +131,5 @@ from_start first second rows message line s accepted rows_exact message_exact =
       opened_receiver_lem s 0 zeros record { settings = ok; exact = length-replicate (receiver_len s) 0; in_time_lem = zero-le },
       message_exact,
     )
-    (fed_steps first second line 0 (slots_of s first second) 0 (opened_receiver s 0) (opened_rows s 0) (replicate (message_len s) 0) accepted
-    (omega arith))
+    (fed_steps first second line 0 (slots_of s first second) 0 (opened_receiver s 0) (opened_rows s 0) (replicate (message_len s) 0)
+    accepted (omega arith))

@@ -42,7 +42,8 @@ module _ (first second : List ℕ) where
   unfolding pair_start
   played_accepted s starts = go (eqb (length first + length second) 0) refl (pair_tested first second) refl
     where
-      go : (b : Bool) → eqb (length first + length second) 0 ≡ b → (a : Check) → pair_tested first second ≡ a → pair_cause s first second ≡ 0
+      go : (b : Bool) → eqb (length first + length second) 0 ≡ b → (a : Check) → pair_tested first second ≡ a
+          → pair_cause s first second ≡ 0
       go true none a found = let no : Ok None ≡ Ok (Some s) = rw (none, pair_start) at starts in absurd (cc)
       go false some (Err c) found = let no : Err c ≡ Ok (Some s) = rw (some, found, pair_start) at starts in absurd (cc)
       go false some (Ok nothing) found =

@@ -22,7 +22,8 @@ module _ (s : Settings) (first second : List ℕ) (pair : Checked s first second
   unfolding Rising
   long_by true b a-is b-is either =
       rw (part_first s first second slot a-is, first_bytes s first second slot)
-      (header_inside s first (below s first slot) (stands_below s first pair.one.rising slot a-is).0 (frame_of s first (below s first slot)) refl)
+      (header_inside s first (below s first slot) (stands_below s first pair.one.rising slot a-is).0
+      (frame_of s first (below s first slot)) refl)
   long_by false true a-is b-is either =
       rw (part_second s first second slot a-is b-is, second_bytes s first second slot)
       (header_inside s second (below s second slot) (stands_below s second pair.two.rising slot b-is).0
