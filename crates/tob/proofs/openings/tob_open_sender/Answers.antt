@@ -17,23 +17,23 @@ use Rattle.tob.proofs.openings.tob_open_sender.Goals as goal
 abbrev outcome : List ℕ → ℕ → List ℕ → Opening
 outcome rows reply state = record { reply = reply; state = state; rows = rows }
 
-pub returns-in-Refused : goal.returns-in-Refused
-returns-in-Refused c =
-    let looked : c.open_cause-found.result ≡ open_cause (settings_at 0 c.args.settings.now) state_len c.args.state.now = c.open_cause-found.ensures
+pub returns-in-Err : goal.returns-in-Err
+returns-in-Err c =
+    let looked : c.open_cause.result ≡ open_cause (settings_at 0 c.args.settings.now) state_len c.args.state.now = c.open_cause.ensures
     ∙ ap (λ (s : Settings). open_cause s state_len c.args.state.now) c.settings_at-s.ensures in
-    ap (λ (n : ℕ). outcome c.args.rows.now n c.args.state.now) c.number_of.ensures
-    ∙ sender_caused c.args.settings.now c.args.state.now c.args.rows.now _ (sym (looked) ∙ c.in-Refused.is)
+    ap (λ (n : ℕ). outcome c.args.rows.now n c.args.state.now) c.from.ensures
+    ∙ sender_caused c.args.settings.now c.args.state.now c.args.rows.now _ (sym (looked) ∙ c.in-Err.is)
 
 pub save_answer-requires : goal.save_answer-requires
 save_answer-requires c =
-    let looked : c.open_cause-found.result ≡ open_cause (settings_at 0 c.args.settings.now) state_len c.args.state.now = c.open_cause-found.ensures
+    let looked : c.open_cause.result ≡ open_cause (settings_at 0 c.args.settings.now) state_len c.args.state.now = c.open_cause.ensures
     ∙ ap (λ (s : Settings). open_cause s state_len c.args.state.now) c.settings_at-s.ensures in
     let uncaused : open_cause (settings_at 0 c.args.settings.now) state_len c.args.state.now ≡ Ok tt = sym (looked) ∙ c.in_default.is in
     open_exact (settings_at 0 c.args.settings.now) state_len c.args.state.now (uncaused)
 
 pub returns : goal.returns
 returns c =
-    let looked : c.open_cause-found.result ≡ open_cause (settings_at 0 c.args.settings.now) state_len c.args.state.now = c.open_cause-found.ensures
+    let looked : c.open_cause.result ≡ open_cause (settings_at 0 c.args.settings.now) state_len c.args.state.now = c.open_cause.ensures
     ∙ ap (λ (s : Settings). open_cause s state_len c.args.state.now) c.settings_at-s.ensures in
     let uncaused : open_cause (settings_at 0 c.args.settings.now) state_len c.args.state.now ≡ Ok tt = sym (looked) ∙ c.in_default.is in
     ap₂ (outcome _) c.save_answer.ensures.number

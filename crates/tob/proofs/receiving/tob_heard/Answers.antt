@@ -17,29 +17,29 @@ use Rattle.tob.proofs.receiving.tob_heard.Goals as goal
 abbrev outcome : List ℕ → List ℕ → ℕ → List ℕ → Reporting
 outcome rows message reply state = record { reply = reply; state = state; rows = rows; message = message }
 
-pub returns-in-Refused : goal.returns-in-Refused
-returns-in-Refused c =
-    ap (λ (n : ℕ). outcome c.args.rows.now c.args.message.now n c.args.state.now) c.number_of.ensures
-    ∙ heard_caused c.args.state.now c.args.rows.now c.args.message.now c.args.frame.now _ (sym c.state_cause-found.ensures ∙ c.in-Refused.is)
+pub returns-in-Err : goal.returns-in-Err
+returns-in-Err c =
+    ap (λ (n : ℕ). outcome c.args.rows.now c.args.message.now n c.args.state.now) c.from.ensures
+    ∙ heard_caused c.args.state.now c.args.rows.now c.args.message.now c.args.frame.now _ (sym c.state_cause.ensures ∙ c.in-Err.is)
 
 pub receiver_in-requires : goal.receiver_in-requires
 receiver_in-requires c =
-    let uncaused : state_cause receiver_end c.args.state.now ≡ Ok tt = sym c.state_cause-found.ensures ∙ c.in_default.is in
+    let uncaused : state_cause receiver_end c.args.state.now ≡ Ok tt = sym c.state_cause.ensures ∙ c.in_default.is in
     let sized : length c.args.state.now ≡ state_len = uncaused_length receiver_end c.args.state.now (uncaused) in
     omega (arith, sized)
 
 pub save_reply-requires : goal.save_reply-requires
 save_reply-requires c =
-    let uncaused : state_cause receiver_end c.args.state.now ≡ Ok tt = sym c.state_cause-found.ensures ∙ c.in_default.is in
+    let uncaused : state_cause receiver_end c.args.state.now ≡ Ok tt = sym c.state_cause.ensures ∙ c.in_default.is in
     let sized : length c.args.state.now ≡ state_len = uncaused_length receiver_end c.args.state.now (uncaused) in
     sized
 
 pub returns : goal.returns
 returns c =
-    let uncaused : state_cause receiver_end c.args.state.now ≡ Ok tt = sym c.state_cause-found.ensures ∙ c.in_default.is in
+    let uncaused : state_cause receiver_end c.args.state.now ≡ Ok tt = sym c.state_cause.ensures ∙ c.in_default.is in
     ap₂ (outcome _ _) c.save_reply.ensures.number
     (c.save_reply.ensures.state
-    ∙ ap (λ (bytes : List ℕ). saved (accepts c.heard-r.result.reply) bytes c.args.state.now) c.receiver_bytes.ensures)
+    ∙ ap (λ (bytes : List ℕ). saved (accepts c.heard-r.result.answer) bytes c.args.state.now) c.receiver_bytes.ensures)
     ∙ ap (report_left c.args.state.now)
     (c.heard-r.ensures
     ∙ ap (λ (x : Receiver). heard_of x c.args.rows.now c.args.frame.now c.args.message.now) c.receiver_in.ensures)

@@ -19,21 +19,21 @@ use Rattle.tob.proofs.receiving.tob_look_up.Goals as goal
 abbrev outcome : List ℕ → ℕ → Looking
 outcome message reply = record { reply = reply; message = message }
 
-pub returns-in-Refused : goal.returns-in-Refused
-returns-in-Refused c =
-    ap (outcome c.args.message.now) c.number_of.ensures
+pub returns-in-Err : goal.returns-in-Err
+returns-in-Err c =
+    ap (outcome c.args.message.now) c.from.ensures
     ∙ look_up_caused c.args.state.now c.args.rows.now c.args.message.now c.args.number _
-    (sym c.state_cause-found.ensures ∙ c.in-Refused.is)
+    (sym c.state_cause.ensures ∙ c.in-Err.is)
 
 pub receiver_in-requires : goal.receiver_in-requires
 receiver_in-requires c =
-    let uncaused : state_cause receiver_end c.args.state.now ≡ Ok tt = sym c.state_cause-found.ensures ∙ c.in_default.is in
+    let uncaused : state_cause receiver_end c.args.state.now ≡ Ok tt = sym c.state_cause.ensures ∙ c.in_default.is in
     let sized : length c.args.state.now ≡ state_len = uncaused_length receiver_end c.args.state.now (uncaused) in
     omega (arith, sized)
 
 pub returns : goal.returns
 returns c =
-    let uncaused : state_cause receiver_end c.args.state.now ≡ Ok tt = sym c.state_cause-found.ensures ∙ c.in_default.is in
+    let uncaused : state_cause receiver_end c.args.state.now ≡ Ok tt = sym c.state_cause.ensures ∙ c.in_default.is in
     ap (outcome _) c.reply_number.ensures
     ∙ ap looked_bytes
     (c.look_up.ensures

@@ -17,26 +17,26 @@ use Rattle.tob.proofs.sending.tob_send.Goals as goal
 abbrev outcome : List ℕ → List ℕ → ℕ → List ℕ → Sending
 outcome rows frame reply state = record { reply = reply; state = state; rows = rows; frame = frame }
 
-pub returns-in-Refused : goal.returns-in-Refused
-returns-in-Refused c =
-    ap (λ (n : ℕ). outcome c.args.rows.now c.args.frame.now n c.args.state.now) c.number_of.ensures
-    ∙ send_caused c.args.state.now c.args.rows.now c.args.message.now c.args.frame.now _ (sym c.state_cause-found.ensures ∙ c.in-Refused.is)
+pub returns-in-Err : goal.returns-in-Err
+returns-in-Err c =
+    ap (λ (n : ℕ). outcome c.args.rows.now c.args.frame.now n c.args.state.now) c.from.ensures
+    ∙ send_caused c.args.state.now c.args.rows.now c.args.message.now c.args.frame.now _ (sym c.state_cause.ensures ∙ c.in-Err.is)
 
 pub sender_in-requires : goal.sender_in-requires
 sender_in-requires c =
-    let uncaused : state_cause sender_end c.args.state.now ≡ Ok tt = sym c.state_cause-found.ensures ∙ c.in_default.is in
+    let uncaused : state_cause sender_end c.args.state.now ≡ Ok tt = sym c.state_cause.ensures ∙ c.in_default.is in
     let sized : length c.args.state.now ≡ state_len = uncaused_length sender_end c.args.state.now (uncaused) in
     omega (arith, sized)
 
 pub save_answer-requires : goal.save_answer-requires
 save_answer-requires c =
-    let uncaused : state_cause sender_end c.args.state.now ≡ Ok tt = sym c.state_cause-found.ensures ∙ c.in_default.is in
+    let uncaused : state_cause sender_end c.args.state.now ≡ Ok tt = sym c.state_cause.ensures ∙ c.in_default.is in
     let sized : length c.args.state.now ≡ state_len = uncaused_length sender_end c.args.state.now (uncaused) in
     sized
 
 pub returns : goal.returns
 returns c =
-    let uncaused : state_cause sender_end c.args.state.now ≡ Ok tt = sym c.state_cause-found.ensures ∙ c.in_default.is in
+    let uncaused : state_cause sender_end c.args.state.now ≡ Ok tt = sym c.state_cause.ensures ∙ c.in_default.is in
     ap₂ (outcome _ _) c.save_answer.ensures.number
     (c.save_answer.ensures.state
     ∙ ap (λ (bytes : List ℕ). saved (is_accepted c.send-r.result.answer) bytes c.args.state.now) c.sender_bytes.ensures)
