@@ -11,9 +11,7 @@ use crate::walk::Faults;
 use aerials::PairCause;
 use buffers::frame_len;
 use code::Settings;
-
-// The most that a recording may have: 64 KiB.
-const LONGEST: usize = 65536;
+use recording::LONGEST;
 
 impl<'a> Recorded<'a> {
     // Whether it is too long, or not a whole number of frames.

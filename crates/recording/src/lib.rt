@@ -5,6 +5,9 @@
 ghost use Rattle.std.specs.Prelude.{◌≡◌};
 ghost use Rattle.recording.specs.Found.{found_at};
 
+// The most that a recording may have: 64 KiB.
+pub const LONGEST: usize = 65536;
+
 // A reader walks a recording frame by frame, without copying it.
 #[derive(Clone, Copy)]
 pub struct Reader<'a> {

@@ -6,9 +6,7 @@ use buffers::frame_len;
 use code::Settings;
 use frames::settings_at;
 use protocol::Cause;
-
-// The most that a recording may have: 64 KiB.
-const LONGEST: usize = 65536;
+use recording::LONGEST;
 
 // The settings that a recording is played with, if it is not empty, or the cause that refuses it before any line.
 pub fn examine(recording: &[u8]) -> Result<Option<Settings>, Cause>
