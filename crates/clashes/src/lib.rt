@@ -2,39 +2,37 @@
 #![tactic(auto)]
 
 ghost use Rattle.std.specs.Prelude.{◌≡◌, ◌<◌, ◌≤◌};
-ghost use Rattle.gathering.specs.Pairs.{pairs_of, Paired};
 ghost use Rattle.code.specs.Settings.{k_of, n_of};
 ghost use Rattle.elimination.specs.Elimination.{differs};
 ghost use Rattle.clashes.specs.Clashes.{ParityOnly, sum_clash, sums_clash};
 
 use code::Settings;
 use elimination::Reduced;
-use shares::{Codewords, sum_at};
+use shares::Vectors;
 
 // Whether in some lane the weighted sum of the vectors at position q is not the byte that arrived.
-fn clashing_at(words: &Codewords, rows: &[[u8; 16]; 16], pairs: &[[u8; 64]; 32], q: usize) -> bool
-    requires { Paired (pairs_of (k_of words.now.s)) pairs.now × (q < n_of words.now.s) }
-    ensures { result ≡ sum_clash words.now.s rows.now pairs.now words.now.places.now words.now.bytes.now q }
+fn clashing_at(vectors: &Vectors, rows: &[[u8; 16]; 16], q: usize) -> bool
+    requires { q < n_of vectors.now.words.s }
+    ensures { result
+        ≡ sum_clash vectors.now.words.s rows.now vectors.now.table.now vectors.now.words.places.now
+        vectors.now.words.bytes.now q }
 {
-    let sum = sum_at(words.s, rows, pairs, q);
-    let start = words.places[q];
-    let lanes = words.s.lanes as usize;
-    &sum[..lanes] != &words.bytes[start..start + lanes]
+    let sum = vectors.sum_at(rows, q);
+    let lanes = vectors.words.s.lanes as usize;
+    let arrived = vectors.words.symbol(q);
+    &sum[..lanes] != arrived
 }
 
 // Whether some lane clashes at a known position, where no source has a flag.
-pub fn clashing(
-    words: &Codewords,
-    rows: &[[u8; 16]; 16],
-    flags: &[u8; 16],
-    pairs: &[[u8; 64]; 32],
-) -> bool
-    requires { Paired (pairs_of (k_of words.now.s)) pairs.now × ParityOnly words.now.s flags.now }
+pub fn clashing(vectors: &Vectors, rows: &[[u8; 16]; 16], flags: &[u8; 16]) -> bool
+    requires { ParityOnly vectors.now.words.s flags.now }
     ensures { result
-        ≡ sums_clash words.now.s rows.now pairs.now flags.now words.now.places.now words.now.bytes.now }
+        ≡ sums_clash vectors.now.words.s rows.now vectors.now.table.now flags.now vectors.now.words.places.now
+        vectors.now.words.bytes.now }
 {
+    let words = vectors.words;
     for q in words.s.sources()..words.s.symbols() {
-        if flags[q] == 1 && clashing_at(words, rows, pairs, q) {
+        if flags[q] == 1 && clashing_at(vectors, rows, q) {
             return true;
         }
     }

@@ -1,13 +1,12 @@
 -- Clashes, position by position: some lane clashes exactly if at some known position the sums of all lanes are not the bytes.
 use mathlib.Core.Path.{◌≡◌, refl, sym, ap, ◌∙◌, subst, subst⁻¹}
-use mathlib.Core.Bool.{Bool, true, false, cond, not, ◌&&◌}
+use mathlib.Core.Bool.{Bool, true, false, cond, ◌&&◌}
 use mathlib.Core.List.{List}
-use mathlib.Core.Logic.{◌≢◌}
 use Prim.Native.Nat.{ℕ, ◌<◌}
 use native.Mathlib.Omega.{arith}
 use lib.Dec.{T}
 use lib.ListN.{get_or}
-use borrow.Author.Tests.{eq-eqb, ne_eqb, eqb-true}
+use borrow.Author.Tests.{ne_eqb, eqb-true}
 use Rattle.galois.specs.Bounded.{any}
 use Rattle.galois.proofs.Cases.{is_true, and_left, and_right, both_pass, any_at, some_any, any-one, any_none, any_same}
 use Rattle.gathering.specs.Pairs.{pairs_of}

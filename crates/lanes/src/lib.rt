@@ -10,7 +10,7 @@ ghost use Rattle.lanes.specs.Lanes.{Own, lanes_said};
 
 use clashes::{clashing, differing};
 use elimination::{Grade, Reduced};
-use shares::{Codewords, gather};
+use shares::{Codewords, Vectors, gather};
 use symbol::{write_own, write_sum};
 
 // What elimination says of position i, where no source has a flag: a clash if some lane clashes at a position whose flag is 1, else
@@ -27,9 +27,13 @@ pub fn answer(
     ensures { record { grade = result; symbol = out.new }
         ≡ lanes_said words.now.s reduced.now flags.now words.now.places.now words.now.bytes.now i out.old }
 {
-    let mut pairs = [[0u8; 64]; 32];
-    gather(words, &reduced.roles, &mut pairs);
-    if clashing(words, &reduced.rows, flags, &pairs) {
+    let mut table = [[0u8; 64]; 32];
+    gather(words, &reduced.roles, &mut table);
+    let vectors = Vectors {
+        words: *words,
+        table: &table,
+    };
+    if clashing(&vectors, &reduced.rows, flags) {
         return Grade::Clash;
     }
     if reduced.roles[i] as usize == i {
@@ -39,6 +43,6 @@ pub fn answer(
     if differing(words.s, reduced, i) {
         return Grade::Lost;
     }
-    write_sum(words.s, &reduced.rows, &pairs, i, out);
+    write_sum(&vectors, &reduced.rows, i, out);
     Grade::Whole
 }

@@ -8,5 +8,6 @@ use Rattle.clashes.proofs.clashing.Given as goal
 
 abbrev pub invariant-loop-q : goal.invariant-loop-q
 invariant-loop-q l =
+    let words = l.vectors.words in
     (p : ℕ) → p < l.q
-    → T (known_in l.words.s l.flags p && sum_clash l.words.s l.rows l.pairs l.words.places.now l.words.bytes.now p) → ⊥
+    → T (known_in words.s l.flags p && sum_clash words.s l.rows l.vectors.table.now words.places.now words.bytes.now p) → ⊥

@@ -1,8 +1,6 @@
 -- Each way out is one case of the answer.
-use mathlib.Core.Path.{◌≡◌, sym, ap, ◌∙◌}
-use Prim.Native.Nat.{ℕ, ◌<◌}
+use mathlib.Core.Path.{sym, ap, ◌∙◌}
 use native.Mathlib.Omega.{arith}
-use lib.ListN.{get_or}
 use Rattle.gathering.proofs.PairLaws.{blank_wide}
 use Rattle.code.proofs.Shape.{shape}
 use Rattle.elimination.specs.declared.grade.Grade.TheVariants.{Whole}
@@ -16,13 +14,13 @@ use Rattle.lanes.proofs.answer.Goals as goal
 pub gather-requires : goal.gather-requires
 gather-requires c = blank_wide
 
-pub clashing-requires : goal.clashing-requires
-clashing-requires c =
-    let words = c.args.words.now in (
-      put_paired words.s (shape words.s words.settings) c.args.reduced.now words.places.now words.bytes.now c.gather.new.pairs
-          c.gather.ensures,
-      c.requires.3,
-    )
+pub invariant_of-vectors : goal.invariant_of-vectors
+invariant_of-vectors c =
+    let words = c.args.words.now in
+    record {
+      paired = put_paired words.s (shape words.s words.settings) c.args.reduced.now words.places.now words.bytes.now c.gather.new.pairs
+          c.gather.ensures;
+    }
 
 pub returns-then-clashing : goal.returns-then-clashing
 returns-then-clashing c =
@@ -68,13 +66,8 @@ returns-then-differing c =
 
 pub write_sum-requires : goal.write_sum-requires
 write_sum-requires c =
-    let words = c.args.words.now in
-    let h = shape words.s words.settings in (
-      words.settings,
-      put_paired words.s h c.args.reduced.now words.places.now words.bytes.now c.gather.new.pairs c.gather.ensures,
-      omega arith,
-      c.requires.1,
-    )
+    let h = shape c.args.words.now.s c.args.words.now.settings in
+    (omega arith, c.requires.1)
 
 pub returns : goal.returns
 returns c =
