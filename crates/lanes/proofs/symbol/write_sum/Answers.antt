@@ -15,25 +15,29 @@ use Rattle.lanes.proofs.symbol.write_sum.Goals as goal
 
 pub slice_bounds-sum-end : goal.slice_bounds-sum-end
 slice_bounds-sum-end c =
+    let words = c.args.vectors.now.words in
     let long : length c.sum_at-sum.result ≡ 64 = search rules in
-    omega (arith, (shape c.args.vectors.now.words.s c.args.vectors.now.words.settings).lanes_few)
+    omega (arith, (shape words.s words.settings).lanes_few)
 
 pub slice_bounds-copy_from_slice-end : goal.slice_bounds-copy_from_slice-end
 slice_bounds-copy_from_slice-end c =
+    let words = c.args.vectors.now.words in
     let long : length c.sum_at-sum.result ≡ 64 = search rules in
-    sym (length-take-le c.args.vectors.now.words.s.lanes c.sum_at-sum.result (omega (arith, (shape c.args.vectors.now.words.s c.args.vectors.now.words.settings).lanes_few)))
+    sym (length-take-le words.s.lanes c.sum_at-sum.result (omega (arith, (shape words.s words.settings).lanes_few)))
 
 pub copy_from_slice-requires : goal.copy_from_slice-requires
 copy_from_slice-requires c =
+    let words = c.args.vectors.now.words in
     let long : length c.sum_at-sum.result ≡ 64 = search rules in
-    omega
-    (arith, length-take-le c.args.vectors.now.words.s.lanes c.sum_at-sum.result (omega (arith, (shape c.args.vectors.now.words.s c.args.vectors.now.words.settings).lanes_few)))
+    omega (arith, length-take-le words.s.lanes c.sum_at-sum.result (omega (arith, (shape words.s words.settings).lanes_few)))
 
 pub returns : goal.returns
 returns c =
+    let vectors = c.args.vectors.now in
+    let s = vectors.words.s in
     let long : length c.sum_at-sum.result ≡ 64 = search rules in
-    let front = length-take-le c.args.vectors.now.words.s.lanes c.sum_at-sum.result (omega (arith, (shape c.args.vectors.now.words.s c.args.vectors.now.words.settings).lanes_few)) in
+    let front = length-take-le s.lanes c.sum_at-sum.result (omega (arith, (shape s vectors.words.settings).lanes_few)) in
     c.copy_from_slice.ensures.after
-    ∙ is_table c.args.vectors.now.words.s.lanes (λ v. get_or (weighted_of c.args.rows.now c.args.i c.args.vectors.now.table.now (pairs_of (k_of c.args.vectors.now.words.s))) v 0) 0
-    (take c.args.vectors.now.words.s.lanes c.sum_at-sum.result) front
-    (λ v lane. get_or-take c.args.vectors.now.words.s.lanes c.sum_at-sum.result v 0 lane ∙ ap (λ (l : List ℕ). get_or l v 0) c.sum_at-sum.ensures)
+    ∙ is_table s.lanes (λ v. get_or (weighted_of c.args.rows.now c.args.i vectors.table.now (pairs_of (k_of s))) v 0) 0
+    (take s.lanes c.sum_at-sum.result) front
+    (λ v lane. get_or-take s.lanes c.sum_at-sum.result v 0 lane ∙ ap (λ (l : List ℕ). get_or l v 0) c.sum_at-sum.ensures)
