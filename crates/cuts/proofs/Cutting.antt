@@ -33,9 +33,11 @@ module _ (s : Settings) (cut e : ℕ) (rows : List ℕ) (ends : e ≡ end_of (le
 -- ---- a send
 
 pub sent : (c : Call) (rows message frame : List ℕ) (d e f : ℕ) (x : Sender) (o : Sent)
-    → x ≡ sender_at c.settings c.due → d ≡ end_of (length rows) c.rows → e ≡ end_of (length message) c.first → f ≡ end_of (length frame) c.second
+    → x ≡ sender_at c.settings c.due → d ≡ end_of (length rows) c.rows → e ≡ end_of (length message) c.first → f
+    ≡ end_of (length frame) c.second
     → o ≡ send_of x (take (d - 0) rows) (take (e - 0) message) (take (f - 0) frame)
-    → record { sender = o.sender; rows = o.rows ++ drop (d - 0) rows; frame = o.frame ++ drop (f - 0) frame } ≡ send_cut c rows message frame
+    → record { sender = o.sender; rows = o.rows ++ drop (d - 0) rows; frame = o.frame ++ drop (f - 0) frame }
+    ≡ send_cut c rows message frame
 unfolding send_cut before behind
 sent c rows message frame d e f x o state rows_end message-end frame-end called =
     rw (called, state, sub-zero d, sub-zero e, sub-zero f, rows_end, message-end, frame-end)
@@ -43,9 +45,11 @@ sent c rows message frame d e f x o state rows_end message-end frame-end called 
 -- ---- reports
 
 pub heard : (c : Call) (rows frame buffer : List ℕ) (d e f : ℕ) (x : Receiver) (o : Reported)
-    → x ≡ receiver_at c.settings c.opening c.due → d ≡ end_of (length rows) c.rows → e ≡ end_of (length frame) c.first → f ≡ end_of (length buffer) c.second
+    → x ≡ receiver_at c.settings c.opening c.due → d ≡ end_of (length rows) c.rows → e ≡ end_of (length frame) c.first → f
+    ≡ end_of (length buffer) c.second
     → o ≡ heard_of x (take (d - 0) rows) (take (e - 0) frame) (take (f - 0) buffer)
-    → record { receiver = o.receiver; rows = o.rows ++ drop (d - 0) rows; buffer = o.message ++ drop (f - 0) buffer } ≡ heard_cut c rows frame buffer
+    → record { receiver = o.receiver; rows = o.rows ++ drop (d - 0) rows; buffer = o.message ++ drop (f - 0) buffer }
+    ≡ heard_cut c rows frame buffer
 unfolding report_cut heard_cut before behind
 heard c rows frame buffer d e f x o state rows_end frame-end buffer-end called =
     rw (called, state, sub-zero d, sub-zero e, sub-zero f, rows_end, frame-end, buffer-end)
@@ -53,6 +57,7 @@ heard c rows frame buffer d e f x o state rows_end frame-end buffer-end called =
 pub lost : (c : Call) (rows buffer : List ℕ) (d f : ℕ) (x : Receiver) (o : Reported)
     → x ≡ receiver_at c.settings c.opening c.due → d ≡ end_of (length rows) c.rows → f ≡ end_of (length buffer) c.first
     → o ≡ loss_of x (take (d - 0) rows) (take (f - 0) buffer)
-    → record { receiver = o.receiver; rows = o.rows ++ drop (d - 0) rows; buffer = o.message ++ drop (f - 0) buffer } ≡ loss_cut c rows buffer
+    → record { receiver = o.receiver; rows = o.rows ++ drop (d - 0) rows; buffer = o.message ++ drop (f - 0) buffer }
+    ≡ loss_cut c rows buffer
 unfolding report_cut loss_cut before behind
 lost c rows buffer d f x o state rows_end buffer-end called = rw (called, state, sub-zero d, sub-zero f, rows_end, buffer-end)

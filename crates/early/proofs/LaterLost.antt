@@ -98,7 +98,8 @@ module _ (s : Settings) (some : 0 < s.lanes) (rows rows' : List ℕ) (due due' t
       is (Ok Lost) n
       ∙ sym ((verdict_lost s rows' due' t).1 (λ c. no_clash (clash_moves s what' what forth c), lost_moves s what what' forth l)))
       (λ n.
-      is (Ok Clash) n ∙ sym ((verdict_clash s rows' due' t).1 (clash_moves s what what' back ((verdict_clash s rows due t).0 (is (Ok Clash) n)))))
+      is (Ok Clash) n ∙ sym
+      ((verdict_clash s rows' due' t).1 (clash_moves s what what' back ((verdict_clash s rows due t).0 (is (Ok Clash) n)))))
       rest)
       (verdict_one s rows due t)
 
@@ -167,7 +168,8 @@ module _ (x : Receiver) (rows message : List ℕ) (h : LossOpen x rows message) 
         ⊎_elim
         (λ from.
         let (call, a) = c'.reported (t + p - i) (omega arith) (omega arith) in
-        let lost : T (of_loss call) = all call (subst (λ (q : Report). Memᴰ q losses) a.called (call_listed x rows losses a.report a.listed)) in
+        let lost : T (of_loss call) = all call
+        (subst (λ (q : Report). Memᴰ q losses) a.called (call_listed x rows losses a.report a.listed)) in
         absurd (lost_row x.settings call lost (sym (ap (λ (l : List ℕ). get_or l 0 0) (row_reported c' t i p hi from call a)) ∙ flag)))
         (λ before. (
           (known_flag_lem c t early i p v hi).1 (before, flag),

@@ -65,7 +65,8 @@ module _ (s : Settings) (first second : List ℕ) (ok : pair_cause s first secon
 -- all of it
 pub pair_faithful_demand3 : PairFaithfulDemand3
 unfolding PairFaithfulDemand3 Demand3
-pair_faithful_demand3 s first second ok opening in_time_lem sender_rows receiver_rows sends-exact reports-exact send_calls bytes messages own =
+pair_faithful_demand3 s first second ok opening in_time_lem sender_rows receiver_rows sends-exact reports-exact send_calls bytes messages
+own =
     let a : OpenedSender = open_sender_of s sender_rows in
     let b : OpenedReceiver = open_receiver_of s opening receiver_rows in
     let sent : List SendMade = sends a.sender a.rows send_calls in
@@ -79,5 +80,6 @@ unfolding PairFaithfulDemand3 PairDemand3
 pair_demand3 s first second ok opening in_time_lem sender_rows receiver_rows sends-exact reports-exact send_calls bytes messages one two =
     let a : OpenedSender = open_sender_of s sender_rows in
     let list = opened_fed s first second ok opening in_time_lem receiver_rows reports-exact messages in
-    pair_faithful_demand3 s first second ok opening in_time_lem sender_rows receiver_rows sends-exact reports-exact send_calls bytes messages
+    pair_faithful_demand3 s first second ok opening in_time_lem sender_rows receiver_rows sends-exact reports-exact send_calls bytes
+    messages
     (faithful s first second ok list (sends a.sender a.rows send_calls) one two)

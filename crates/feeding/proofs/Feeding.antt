@@ -66,7 +66,8 @@ pub opened_fed : (s : Settings) (first second : List ℕ) → pair_cause s first
     FedFrom s first second opening (reports b.receiver b.rows (fed s first second b.receiver b.rows messages))
 opened_fed s first second ok opening in_time_lem rows exact messages =
     let b : OpenedReceiver = open_receiver_of s opening rows in
-    let opens : OpensAt s opening rows = record { settings = (checked s first second ok).settings; exact = exact; in_time_lem = in_time_lem } in
+    let opens : OpensAt s opening rows = record
+    { settings = (checked s first second ok).settings; exact = exact; in_time_lem = in_time_lem } in
     record {
       rows = opened_rows s opening;
       chain = opened_chain s opening rows opens (fed s first second b.receiver b.rows messages);

@@ -61,7 +61,8 @@ pub record Feeds (s : Settings) (first second : List ℕ) (told : List ReportMad
 -- any accepted pair of bytes, any opening slot up to the last one, any rows lent to an accepted opening, any message buffers
 unfoldable pub PairFed : Type 0
 PairFed =
-    (s : Settings) (first second : List ℕ) → pair_cause s first second ≡ 0 → Bytes first → Bytes second → (opening : ℕ) → opening ≤ last_slot
+    (s : Settings) (first second : List ℕ) → pair_cause s first second ≡ 0 → Bytes first → Bytes second → (opening : ℕ)
+    → opening ≤ last_slot
     → (rows : List ℕ) → length rows ≡ receiver_len s → (messages : List (List ℕ))
     → let b : OpenedReceiver = open_receiver_of s opening rows in
     Feeds s first second (reports b.receiver b.rows (fed s first second b.receiver b.rows messages))

@@ -18,7 +18,8 @@ use Rattle.protocol.specs.Answers.{Answer}
 use Rattle.protocol.specs.Causes.{loss_cause, frame_cause}
 use Rattle.protocol.specs.Lengths.{last_slot, sender_len}
 use Rattle.protocol.specs.States.{opened_sender, sent_on, opened_receiver, reported_on}
-use Rattle.protocol.specs.Calls.{OpenedSender, OpenedReceiver, Sent, Reported, open_sender_of, open_receiver_of, send_of, moved_on, loss_of, heard_of}
+use Rattle.protocol.specs.Calls.{OpenedSender, OpenedReceiver, Sent, Reported, open_sender_of, open_receiver_of, send_of, moved_on}
+use Rattle.protocol.specs.Calls.{loss_of, heard_of}
 use Rattle.protocol.specs.Calls.{look_up_of}
 use Rattle.protocol.specs.Histories.{accepts}
 use Rattle.protocol.specs.TwoLists.{Send, SendMade, sends, Report, heard, missed, report_of, ReportMade, reports}
@@ -154,7 +155,8 @@ pub opened_receiver_read : (settings : List ℕ) (slot : ℕ) (state rows : List
 unfolding settings_of
 opened_receiver_read settings slot state rows opens room =
     let s : Settings = settings_at 0 settings in
-    rw (sym (receiver_uncaused settings state rows slot (open_clear s state_len state opens.settings room)), reporting.opened_receiver_lem s slot rows opens)
+    rw (sym (receiver_uncaused settings state rows slot (open_clear s state_len state opens.settings room)), reporting.opened_receiver_lem
+    s slot rows opens)
     (refl, refl, kept_receiver (opened_receiver s slot) opens.in_time_lem (omega (arith, opens.in_time_lem)))
 
 -- a report by the library: what it leaves, the receiver that the next call reads, and the slot due then
@@ -288,7 +290,8 @@ calls_read (look_up number message ∷ cs) due state rows y k e =
     }
 
 -- a list of reports is one without look-ups
-alone : (cs : List Report) (due : ℕ) (state rows : List ℕ) → reports_in_bytes (calls_bytes due state rows (map report cs)) ≡ reports_bytes due state rows cs
+alone : (cs : List Report) (due : ℕ) (state rows : List ℕ) → reports_in_bytes (calls_bytes due state rows (map report cs))
+    ≡ reports_bytes due state rows cs
 unfolding calls_bytes reports_in_bytes reports_bytes
 alone [] due state rows = refl
 alone (c ∷ cs) due state rows =
@@ -297,7 +300,8 @@ alone (c ∷ cs) due state rows =
 
 -- ---- after the openings
 
-module _ (settings : List ℕ) (ok : T (accepted (settings_of settings))) (state : List ℕ) (room : length state ≡ state_len) (rows : List ℕ) where
+module _ (settings : List ℕ) (ok : T (accepted (settings_of settings))) (state : List ℕ) (room : length state ≡ state_len) (rows : List ℕ)
+where
   abbrev settled : Settings
   settled = settings_of settings
 

@@ -28,7 +28,8 @@ pub passed : {m : ReportMade} {b : ReportDone} → SameReport m b → acceptance
 passed {m} same = ap acceptance same.reply ∙ reply_accepted m.after.reply
 
 -- and the same slots are lost
-pub lost_same : {made : List ReportMade} {told : List ReportDone} → Forall₂ SameReport made told → (t : ℕ) → lost_at_bytes told t ≡ lost_at made t
+pub lost_same : {made : List ReportMade} {told : List ReportDone} → Forall₂ SameReport made told → (t : ℕ) → lost_at_bytes told t
+    ≡ lost_at made t
 unfolding lost_at_bytes lost_at
 lost_same Forall₂.nil t = refl
 lost_same (Forall₂.cons {a = m} {b = b} same rest) t =
@@ -119,7 +120,8 @@ module _ (s : Settings) (opening : ℕ) {sends₁ : List SendMade} {sends₂ : L
 -- demand 3, of the library's calls
 pub demand3_bytes : Demand3Bytes
 unfolding Demand3Bytes Demand3
-demand3_bytes settings ok opening in_time_lem sender_state sender_rows receiver_state receiver_rows sender-room sender-full receiver-room receiver-full
+demand3_bytes settings ok opening in_time_lem sender_state sender_rows receiver_state receiver_rows sender-room sender-full receiver-room
+receiver-full
     send_calls bytes report_calls =
     let s : Settings = settings_of settings in
     let opens : OpensAt s opening receiver_rows = record { settings = ok; exact = receiver-full; in_time_lem = in_time_lem } in

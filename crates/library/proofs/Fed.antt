@@ -83,7 +83,8 @@ module _ (settings state rows : List ℕ) where
   receiver_exact : (slot : ℕ) → (open_receiver_bytes settings slot state rows).reply ≡ 0 → (length state ≡ state_len) × OpensAt s slot rows
   unfolding open_receiver_bytes_cause
   receiver_exact slot zero =
-      let none = sym (open_receiver_cause_lem s slot state rows) ∙ uncaused _ _ (demand1_bytes.open_receiver settings slot state rows) zero in
+      let none = sym (open_receiver_cause_lem s slot state rows)
+      ∙ uncaused _ _ (demand1_bytes.open_receiver settings slot state rows) zero in
       let (room, opens) = both_clear (open_cause s state_len state) (open_receiver_cause s slot rows) none in
       (open_exact s state_len state room, receiver_open s slot rows opens)
 

@@ -16,17 +16,21 @@ use Rattle.protocol.specs.Lengths.{last_slot, sender_len, receiver_len}
 use Rattle.protocol.specs.Answers.{Answer}
 use Rattle.protocol.specs.Causes.{number_of, row, first_of, open_table, send_table, loss_table, frame_table, look_up_table}
 use Rattle.protocol.specs.Causes.{open_cause, open_receiver_cause, send_cause, loss_cause, frame_cause, frame_cause_of, look_up_cause}
-use Rattle.protocol.specs.Calls.{OpenedSender, OpenedReceiver, Sent, Reported, open_sender_of, send_of, open_receiver_of, moved_on, heard_of, loss_of}
+use Rattle.protocol.specs.Calls.{OpenedSender, OpenedReceiver, Sent, Reported, open_sender_of, send_of, open_receiver_of, moved_on}
+use Rattle.protocol.specs.Calls.{heard_of, loss_of}
 use Rattle.protocol.specs.Calls.{look_up_of}
 use Rattle.protocol.specs.Histories.{is_accepted, accepts}
 use Rattle.protocol.proofs.CauseTables.{followed_by, one_below}
 use Rattle.protocol.proofs.ReportRows.{moved_accepts}
 use Rattle.frames.specs.Fields.{settings_at}
-use Rattle.state.specs.State.{sender_end, receiver_end, sender_bytes, receiver_bytes, saved, state_len, sender_in, receiver_in, state_table, state_cause}
+use Rattle.state.specs.State.{sender_end, receiver_end, sender_bytes, receiver_bytes, saved, state_len, sender_in, receiver_in}
+use Rattle.state.specs.State.{state_table, state_cause}
 use Rattle.protocol.specs.Numbers.{answer_number, reply_number}
-use Rattle.library.specs.Causes.{open_bytes_table, open_bytes_cause, open_receiver_bytes_cause, send_bytes_cause, heard_bytes_cause, lost_bytes_cause}
+use Rattle.library.specs.Causes.{open_bytes_table, open_bytes_cause, open_receiver_bytes_cause, send_bytes_cause, heard_bytes_cause}
+use Rattle.library.specs.Causes.{lost_bytes_cause}
 use Rattle.library.specs.Causes.{look_up_bytes_cause}
-use Rattle.library.specs.Calls.{settings_of, length_for, Opening, open_sender_bytes, open_receiver_bytes, Sending, send_bytes, Reporting, reported_bytes, heard_bytes, lost_bytes}
+use Rattle.library.specs.Calls.{settings_of, length_for, Opening, open_sender_bytes, open_receiver_bytes, Sending, send_bytes, Reporting}
+use Rattle.library.specs.Calls.{reported_bytes, heard_bytes, lost_bytes}
 use Rattle.library.specs.Calls.{looked_bytes, look_up_bytes}
 
 -- ---- lengths
@@ -72,16 +76,19 @@ open_receiver_cause_lem s slot state rows =
 -- the cause that the state gives, else that of protocol's call on what it keeps
 module _ (state rows message : List ℕ) where
   pub send_cause_lem : (frame : List ℕ)
-      → send_bytes_cause state rows message frame ≡ followed_by (state_cause sender_end state) (send_cause (sender_in state) rows message frame)
+      → send_bytes_cause state rows message frame
+      ≡ followed_by (state_cause sender_end state) (send_cause (sender_in state) rows message frame)
   unfolding state_cause send_cause send_bytes_cause
   send_cause_lem frame = one_below (state_table sender_end state) (send_table (sender_in state) rows message frame)
 
   pub heard_cause : (frame : List ℕ)
-      → heard_bytes_cause state rows frame message ≡ followed_by (state_cause receiver_end state) (frame_cause (receiver_in state) rows frame message)
+      → heard_bytes_cause state rows frame message
+      ≡ followed_by (state_cause receiver_end state) (frame_cause (receiver_in state) rows frame message)
   unfolding state_cause frame_cause_of heard_bytes_cause
   heard_cause frame = one_below (state_table receiver_end state) (frame_table (receiver_in state) rows frame message)
 
-  pub lost_cause : lost_bytes_cause state rows message ≡ followed_by (state_cause receiver_end state) (loss_cause (receiver_in state) rows message)
+  pub lost_cause : lost_bytes_cause state rows message
+      ≡ followed_by (state_cause receiver_end state) (loss_cause (receiver_in state) rows message)
   unfolding state_cause loss_cause lost_bytes_cause
   lost_cause = one_below (state_table receiver_end state) (loss_table (receiver_in state) rows message)
 
@@ -118,11 +125,13 @@ module _ (settings state rows : List ℕ) where
   unfolding settings_of open_sender_bytes
   sender_caused c e = rw (open_cause_lem s (sender_len s) state rows, e, open_sender_bytes)
 
-  pub sender_uncaused : open_cause s state_len state ≡ Ok tt → sender_left state (open_sender_of s rows) ≡ open_sender_bytes settings state rows
+  pub sender_uncaused : open_cause s state_len state ≡ Ok tt → sender_left state (open_sender_of s rows)
+      ≡ open_sender_bytes settings state rows
   unfolding settings_of open_sender_of open_sender_bytes
   sender_uncaused none = go (open_cause s (sender_len s) rows) refl
     where
-      go : (f : Answer) → open_cause s (sender_len s) rows ≡ f → sender_left state (open_sender_of s rows) ≡ open_sender_bytes settings state rows
+      go : (f : Answer) → open_cause s (sender_len s) rows ≡ f → sender_left state (open_sender_of s rows)
+          ≡ open_sender_bytes settings state rows
       go (Ok tt) e = rw (open_cause_lem s (sender_len s) state rows, none, e, open_sender_bytes, open_sender_of, e, open_sender_of)
       go (Err c) e = rw (open_cause_lem s (sender_len s) state rows, none, e, open_sender_bytes, open_sender_of)
 

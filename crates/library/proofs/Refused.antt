@@ -9,7 +9,8 @@ use Rattle.code.specs.declared.settings.Settings.{Settings}
 use Rattle.protocol.specs.declared.Cause.{Cause}
 use Rattle.protocol.specs.Answers.{Answer}
 use Rattle.protocol.specs.Lengths.{sender_len}
-use Rattle.protocol.specs.Causes.{number_of, Row, first_of, open_cause, open_receiver_cause, send_cause, loss_cause, frame_cause, look_up_cause}
+use Rattle.protocol.specs.Causes.{number_of, Row, first_of, open_cause, open_receiver_cause, send_cause, loss_cause, frame_cause}
+use Rattle.protocol.specs.Causes.{look_up_cause}
 use Rattle.protocol.specs.Calls.{open_sender_of, open_receiver_of, send_of, heard_of, loss_of, look_up_of}
 use Rattle.protocol.proofs.CauseTables.{both_clear}
 use Rattle.protocol.proofs.NumberLaws.{accepted_number}
@@ -17,9 +18,12 @@ use Rattle.protocol.proofs.Refusals.{Comes, number_first, number_refused, moved_
 use Rattle.frames.specs.Fields.{slot_read_table, slot_read_cause}
 use Rattle.aerials.proofs.Accepted.{pair_causes}
 use Rattle.state.specs.State.{sender_end, receiver_end, state_len, sender_in, receiver_in, state_cause, due_read_table, due_read_cause}
-use Rattle.library.specs.Causes.{open_bytes_table, open_receiver_bytes_table, send_bytes_table, heard_bytes_table, lost_bytes_table, look_up_bytes_table}
-use Rattle.library.specs.Causes.{open_bytes_cause, open_receiver_bytes_cause, send_bytes_cause, heard_bytes_cause, lost_bytes_cause, look_up_bytes_cause}
-use Rattle.library.specs.Calls.{settings_of, Opening, open_sender_bytes, open_receiver_bytes, Sending, send_bytes, Reporting, heard_bytes, lost_bytes}
+use Rattle.library.specs.Causes.{open_bytes_table, open_receiver_bytes_table, send_bytes_table, heard_bytes_table, lost_bytes_table}
+use Rattle.library.specs.Causes.{look_up_bytes_table}
+use Rattle.library.specs.Causes.{open_bytes_cause, open_receiver_bytes_cause, send_bytes_cause, heard_bytes_cause, lost_bytes_cause}
+use Rattle.library.specs.Causes.{look_up_bytes_cause}
+use Rattle.library.specs.Calls.{settings_of, Opening, open_sender_bytes, open_receiver_bytes, Sending, send_bytes, Reporting, heard_bytes}
+use Rattle.library.specs.Calls.{lost_bytes}
 use Rattle.library.specs.Calls.{Looking, look_up_bytes, Reading, read_by, slot_due_bytes, frame_slot_bytes, pair_bytes}
 use Rattle.library.specs.Refusals.{RefusesBytes, Demand1Bytes, TablesInOrder, PairRefuses}
 use Rattle.library.proofs.Outcomes.{open_cause_lem, open_receiver_cause_lem, send_cause_lem, heard_cause, lost_cause, look_up_cause_lem}
@@ -36,10 +40,12 @@ module _ (settings state rows : List ℕ) where
   abbrev s : Settings
   s = settings_of settings
 
-  sender_opens : (a : Answer) → open_bytes_cause s (sender_len s) state rows ≡ a → Opens state rows (open_sender_bytes settings state rows) a
+  sender_opens : (a : Answer) → open_bytes_cause s (sender_len s) state rows ≡ a
+      → Opens state rows (open_sender_bytes settings state rows) a
   unfolding open_sender_bytes open_sender_of
   sender_opens (Ok tt) e =
-      let none = (both_clear (open_cause s state_len state) (open_cause s (sender_len s) rows) (sym (open_cause_lem s (sender_len s) state rows) ∙ e)).1 in
+      let none = (both_clear (open_cause s state_len state) (open_cause s (sender_len s) rows)
+      (sym (open_cause_lem s (sender_len s) state rows) ∙ e)).1 in
       rw (e, open_sender_bytes, none, open_sender_of) accepted_number
   sender_opens (Err c) e = rw (e, open_sender_bytes)
 
@@ -47,7 +53,8 @@ module _ (settings state rows : List ℕ) where
       → Opens state rows (open_receiver_bytes settings slot state rows) a
   unfolding open_receiver_bytes open_receiver_of
   receiver_opens slot (Ok tt) e =
-      let none = (both_clear (open_cause s state_len state) (open_receiver_cause s slot rows) (sym (open_receiver_cause_lem s slot state rows) ∙ e)).1 in
+      let none = (both_clear (open_cause s state_len state) (open_receiver_cause s slot rows)
+      (sym (open_receiver_cause_lem s slot state rows) ∙ e)).1 in
       rw (e, open_receiver_bytes, none, open_receiver_of) accepted_number
   receiver_opens slot (Err c) e = rw (e, open_receiver_bytes)
 
@@ -63,7 +70,8 @@ sends : (state rows message frame : List ℕ) (a : Answer) → send_bytes_cause 
     → Comes (λ (r : Sending). r.reply) (unsent state rows frame) (send_bytes state rows message frame) a
 unfolding send_bytes send_of
 sends state rows message frame (Ok tt) e =
-    let none = (both_clear (state_cause sender_end state) (send_cause (sender_in state) rows message frame) (sym (send_cause_lem state rows message frame) ∙ e)).1 in
+    let none = (both_clear (state_cause sender_end state) (send_cause (sender_in state) rows message frame)
+    (sym (send_cause_lem state rows message frame) ∙ e)).1 in
     rw (e, send_bytes, none, send_of) accepted_number
 sends state rows message frame (Err c) e = rw (e, send_bytes)
 
@@ -83,7 +91,8 @@ hears : (state rows frame message : List ℕ) (a : Answer) → heard_bytes_cause
     → Reports state rows message (heard_bytes state rows frame message) a
 unfolding heard_bytes heard_of
 hears state rows frame message (Ok tt) e =
-    let none = (both_clear (state_cause receiver_end state) (frame_cause (receiver_in state) rows frame message) (sym (heard_cause state rows message frame) ∙ e)).1 in
+    let none = (both_clear (state_cause receiver_end state) (frame_cause (receiver_in state) rows frame message)
+    (sym (heard_cause state rows message frame) ∙ e)).1 in
     rw (e, heard_bytes, none, heard_of) (moved_number (receiver_in state) _ rows)
 hears state rows frame message (Err c) e = rw (e, heard_bytes)
 
@@ -91,7 +100,8 @@ loses : (state rows message : List ℕ) (a : Answer) → lost_bytes_cause state 
     → Reports state rows message (lost_bytes state rows message) a
 unfolding lost_bytes loss_of
 loses state rows message (Ok tt) e =
-    let none = (both_clear (state_cause receiver_end state) (loss_cause (receiver_in state) rows message) (sym (lost_cause state rows message) ∙ e)).1 in
+    let none = (both_clear (state_cause receiver_end state) (loss_cause (receiver_in state) rows message)
+    (sym (lost_cause state rows message) ∙ e)).1 in
     rw (e, lost_bytes, none, loss_of) (moved_number (receiver_in state) _ rows)
 loses state rows message (Err c) e = rw (e, lost_bytes)
 
@@ -109,7 +119,8 @@ looks : (state rows : List ℕ) (number : ℤ) (message : List ℕ) (a : Answer)
 unfolding look_up_bytes look_up_of
 looks state rows number message (Ok tt) e =
     let x = receiver_in state in
-    let none = (both_clear (state_cause receiver_end state) (look_up_cause x rows number message) (sym (look_up_cause_lem state rows message number) ∙ e)).1 in
+    let none = (both_clear (state_cause receiver_end state) (look_up_cause x rows number message)
+    (sym (look_up_cause_lem state rows message number) ∙ e)).1 in
     rw (e, look_up_bytes, none, look_up_of) (told_number x.settings rows _ _)
 looks state rows number message (Err c) e = rw (e, look_up_bytes)
 
@@ -132,7 +143,8 @@ refuses reply refusal r says rs by stays = record {
 }
 
 pub demand1_bytes : Demand1Bytes
-unfolding open_bytes_cause open_receiver_bytes_cause send_bytes_cause heard_bytes_cause lost_bytes_cause look_up_bytes_cause slot_due_bytes due_read_cause frame_slot_bytes slot_read_cause
+unfolding open_bytes_cause open_receiver_bytes_cause send_bytes_cause heard_bytes_cause lost_bytes_cause look_up_bytes_cause
+slot_due_bytes due_read_cause frame_slot_bytes slot_read_cause
 demand1_bytes = record {
   open_sender = λ settings state rows.
       let s : Settings = settings_of settings in

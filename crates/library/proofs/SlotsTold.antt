@@ -41,7 +41,8 @@ use Rattle.state.proofs.KeptStates.{settings_read, due_read, state_uncaused, unc
 use Rattle.layout.specs.Numbers.{acceptance}
 use Rattle.layout.proofs.Refusals.{cause_refused}
 use Rattle.library.specs.Causes.{open_bytes_cause, open_receiver_bytes_cause}
-use Rattle.library.specs.Calls.{settings_of, open_sender_bytes, open_receiver_bytes, Sending, send_bytes, Reporting, heard_bytes, lost_bytes}
+use Rattle.library.specs.Calls.{settings_of, open_sender_bytes, open_receiver_bytes, Sending, send_bytes, Reporting, heard_bytes}
+use Rattle.library.specs.Calls.{lost_bytes}
 use Rattle.library.specs.Calls.{Reading, slot_due_bytes, frame_slot_bytes}
 use Rattle.library.specs.Chains.{report_bytes}
 use Rattle.library.specs.Slots.{Tells, SlotsTell}
@@ -79,7 +80,8 @@ module _ (state : List ℕ) (settled : T (accepted (settings_at 4 state))) where
 abbrev told : ℕ → Reading
 told slot = record { reply = 0; slot = slot }
 
-sender_written : (x : Sender) → T (accepted x.settings) → x.due ≤ last_slot + 1 → (was : ℕ) → Tells (slot_due_bytes (sender_bytes x) was) x.due
+sender_written : (x : Sender) → T (accepted x.settings) → x.due ≤ last_slot + 1 → (was : ℕ)
+    → Tells (slot_due_bytes (sender_bytes x) was) x.due
 sender_written x ok few was =
     let s : Settings = x.settings in
     let due : ℕ = x.due in
@@ -111,7 +113,8 @@ module _ (settings state rows : List ℕ) (was : ℕ) where
       → Tells (slot_due_bytes (open_sender_bytes settings state rows).state was) 0
   unfolding open_sender_bytes open_sender_of open_cause
   sender_opened (Ok tt) e replied =
-      let none = (both_clear (open_cause s state_len state) (open_cause s (sender_len s) rows) (sym (open_cause_lem s (sender_len s) state rows) ∙ e)).1 in
+      let none = (both_clear (open_cause s state_len state) (open_cause s (sender_len s) rows)
+      (sym (open_cause_lem s (sender_len s) state rows) ∙ e)).1 in
       let settled = passes (accepted s) (none_holds (open_table s (sender_len s) rows) none BadSettings) in
       rw (e, open_sender_bytes, none, open_sender_of) (sender_written (opened_sender s) settled (omega arith) was)
   sender_opened (Err c) e replied =
@@ -122,7 +125,8 @@ module _ (settings state rows : List ℕ) (was : ℕ) where
       → Tells (slot_due_bytes (open_receiver_bytes settings slot state rows).state was) slot
   unfolding open_receiver_bytes open_receiver_of
   receiver_opened slot (Ok tt) e replied =
-      let none = (both_clear (open_cause s state_len state) (open_receiver_cause s slot rows) (sym (open_receiver_cause_lem s slot state rows) ∙ e)).1 in
+      let none = (both_clear (open_cause s state_len state) (open_receiver_cause s slot rows)
+      (sym (open_receiver_cause_lem s slot state rows) ∙ e)).1 in
       let opens = receiver_open s slot rows none in
       rw (e, open_receiver_bytes, none, open_receiver_of)
       (receiver_written (opened_receiver s slot) opens.settings (omega (arith, opens.in_time_lem)) was)
@@ -247,7 +251,8 @@ module _ (state rows frame message : List ℕ) (was : ℕ) (bytes : Bytes frame)
   differ none clear other =
       let free = none_holds above clear in
       let due = receiver_tells state (passes (accepted z.settings) (free BadSettings)) none was in
-      let lengths = framed_lengths z.settings (receiver_len z.settings) (length rows) (length message) (length frame) (passes size (free BadLength)) in
+      let lengths = framed_lengths z.settings (receiver_len z.settings) (length rows) (length message) (length frame)
+      (passes size (free BadLength)) in
       let long : length frame ≡ frame_len z.settings = lengths.2 in
       let read : slot_read_cause frame ≡ Ok tt =
       rw (le-ltb (length frame) 14 (omega arith), not-false (agree 5 frame (mark 1)) (free OtherMark)) in
@@ -266,7 +271,8 @@ module _ (state rows frame message : List ℕ) (was : ℕ) (bytes : Bytes frame)
   other_slot replied =
       let found = ((demand1_bytes.heard state rows frame message).first OtherSlot).0 replied in
       let (clear, last) = first_below OtherSlot (state_table receiver_end state ++ above) (row unlike OtherSlot ∷ []) tt found in
-      let (none, rest) = both_clear (first_of (state_table receiver_end state)) (first_of above) (sym (one_below (state_table receiver_end state) above) ∙ clear) in
+      let (none, rest) = both_clear (first_of (state_table receiver_end state)) (first_of above)
+      (sym (one_below (state_table receiver_end state) above) ∙ clear) in
       differ none rest (first_other last)
 
 pub slots_tell : SlotsTell

@@ -26,7 +26,8 @@ use Rattle.protocol.specs.Histories.{SentAs, message_at, accepts, Heard, lost_at
 use Rattle.protocol.specs.Meaning.{Came}
 use Rattle.protocol.specs.Claim.{Faithful, Holds, Demand3}
 use Rattle.protocol.proofs.TrueWords.{symbol_early, symbol_slot}
-use Rattle.protocol.proofs.SenderList.{sent_of, opened_sent, once, message_at_lem, sent_before, message_byte, sends_taken, sent_lengths, sent_header, frame_true}
+use Rattle.protocol.proofs.SenderList.{sent_of, opened_sent, once, message_at_lem, sent_before, message_byte, sends_taken, sent_lengths}
+use Rattle.protocol.proofs.SenderList.{sent_header, frame_true}
 use Rattle.protocol.proofs.CauseTables.{OpensAt}
 use Rattle.protocol.proofs.Received.{reports_taken, own_accepted, told_at}
 use Rattle.protocol.proofs.ReceivedRows.{Begun, Reached, heard_since, left_by, opened}
@@ -73,7 +74,8 @@ module _ (s : Settings) (ok : T (accepted s)) (calls : List Send) (bytes : (c : 
   pub truthful : (rows : List ℕ) (due t : ℕ) → Reached s (row_before s) d told rows due → due ≤ t + delay_of s + 1
       → Truthful s rows due t messages (lost_since d (lost_at told))
   truthful rows due t c to = record {
-    heard_known = λ i v p hi hv hp now kept. known_if c t to i p v hi now (not-true (lost_position (lost_since d (lost_at told)) t i p) kept);
+    heard_known = λ i v p hi hv hp now kept. known_if c t to i p v hi now
+    (not-true (lost_position (lost_since d (lost_at told)) t i p) kept);
     known_true = λ i v p hi hv hp known.
         came_true t i v p ((arrived s rows due t i v).byte p) hp hv ((known_came c t to i p v hi hp hv _).0 (known, refl)).1;
   }

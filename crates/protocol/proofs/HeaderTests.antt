@@ -24,7 +24,8 @@ module _ (version : ℕ) (s : Settings) (due : ℕ) (frame head : List ℕ) (due
   unfolding agree every header mark five slot_bytes
   five_test =
       ap (λ (h : List ℕ). agree_from frame h 5 5) due-head
-      ∙ rw (get_or-drop 5 frame 0 0, get_or-drop 5 frame 1 0, get_or-drop 5 frame 2 0, get_or-drop 5 frame 3 0, get_or-drop 5 frame 4 0) refl
+      ∙ rw (get_or-drop 5 frame 0 0, get_or-drop 5 frame 1 0, get_or-drop 5 frame 2 0, get_or-drop 5 frame 3 0, get_or-drop 5 frame 4 0)
+      refl
 
   pub slot_test : agree_from frame head 10 4 ≡ agree 4 (drop 10 frame) (slot_bytes due)
   unfolding agree every header mark five slot_bytes

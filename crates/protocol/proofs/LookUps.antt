@@ -73,7 +73,8 @@ told_reach s due number t (same, below, above) =
     (λ out.
     ⊎_elim
     (λ first.
-    ⊎_elim (λ early. omega (arith, ltb→lt _ due (subst T (below_less _ due (delay_of s)) early))) (λ negative. omega (arith, ltb→lt t 0 negative))
+    ⊎_elim (λ early. omega (arith, ltb→lt _ due (subst T (below_less _ due (delay_of s)) early)))
+    (λ negative. omega (arith, ltb→lt t 0 negative))
     (or_cases (too_old s due z) (lt_z z (pos 0)) first))
     (λ late. omega (arith, leb→le due _ late)) (or_cases (too_old s due z || lt_z z (pos 0)) (too_new due z) out)))
 

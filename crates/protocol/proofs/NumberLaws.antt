@@ -7,7 +7,8 @@ use native.Mathlib.Omega.{arith}
 use Prim.Native.Nat.{ℕ}
 use lib.Dec.{eqb}
 use Rattle.protocol.specs.declared.Cause.{Cause}
-use Rattle.protocol.specs.declared.Cause.TheVariants.{BadSettings, BadLength, PastLastSlot, OtherMark, OtherSettings, OtherSlot, LateOpening, OutOfReach}
+use Rattle.protocol.specs.declared.Cause.TheVariants.{BadSettings, BadLength, PastLastSlot, OtherMark, OtherSettings, OtherSlot}
+use Rattle.protocol.specs.declared.Cause.TheVariants.{LateOpening, OutOfReach}
 use Rattle.protocol.specs.Answers.{Answer, Reply}
 use Rattle.protocol.specs.declared.Told.TheVariants.{NoneYet, Whole, Lost, Clash}
 use Rattle.protocol.specs.Causes.{number_of}

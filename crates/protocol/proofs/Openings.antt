@@ -35,7 +35,8 @@ start_cause : (s : Settings) (rows : List ℕ) → open_receiver_cause s 0 rows 
 unfolding open_receiver_cause open_cause last_slot
 start_cause s rows = refl
 
-from_start : (s : Settings) (rows : List ℕ) (a : Answer) → open_cause s (receiver_len s) rows ≡ a → open_receiver_of s 0 rows ≡ open_from_start s rows
+from_start : (s : Settings) (rows : List ℕ) (a : Answer) → open_cause s (receiver_len s) rows ≡ a → open_receiver_of s 0 rows
+    ≡ open_from_start s rows
 unfolding open_receiver_of open_from_start
 from_start s rows (Ok tt) e = rw (start_cause s rows ∙ e, e, open_receiver_of, open_from_start, start_rows s)
 from_start s rows (Err c) e = rw (start_cause s rows ∙ e, e, open_receiver_of, open_from_start)

@@ -133,7 +133,8 @@ pub told_number : (s : Settings) (rows : List ℕ) (due t : ℕ) (c : Cause) →
 unfolding tell_of
 told_number s rows due t = taken_number (verdict s rows due t) (verdict_accepts s rows due t)
 
-loses : (x : Receiver) (rows message : List ℕ) (a : Answer) → loss_cause x rows message ≡ a → Reports x rows message (loss_of x rows message) a
+loses : (x : Receiver) (rows message : List ℕ) (a : Answer) → loss_cause x rows message ≡ a
+    → Reports x rows message (loss_of x rows message) a
 unfolding loss_of
 loses x rows message (Ok tt) e = rw (e, loss_of) (moved_number x _ rows)
 loses x rows message (Err c) e = rw (e, loss_of)

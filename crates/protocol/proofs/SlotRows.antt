@@ -75,7 +75,8 @@ module _ {s : Settings} {d : ℕ} {told : List ReportMade} {rows : List ℕ} {du
   unfolding row_of
   by_report h (Report.heard f m) a = Became.heard f (omega arith) record { message = m; by = a }
   by_report h (Report.missed m) a =
-      Became.lost (omega arith) (lost_from d (lost_at told) (t + p - i) (omega arith) ∙ lost_as c.begun.chain (t + p - i) (Report.missed m) a)
+      Became.lost (omega arith)
+      (lost_from d (lost_at told) (t + p - i) (omega arith) ∙ lost_as c.begun.chain (t + p - i) (Report.missed m) a)
 
   -- each slot that was reported, or is before the first one, is one of these
   pub became : t + p < due + i → Became s d told t i p (slot_row s (row_before s) d told t i p)

@@ -41,20 +41,23 @@ module _ (version : ℕ) (x : Receiver) (rows frame message : List ℕ) where
 pub returns-in_err-slot_cause : goal.returns-in_err-slot_cause
 returns-in_err-slot_cause c =
     let a = c.args in
-    let met = looked a.version a.x a.rows.now a.frame.now a.message.now _ _ _ c.receiver_len.ensures c.exactly_framed-exact.ensures c.slot_cause.ensures in
+    let met = looked a.version a.x a.rows.now a.frame.now a.message.now _ _ _ c.receiver_len.ensures c.exactly_framed-exact.ensures
+    c.slot_cause.ensures in
     refused_for _ _ c.from_residual.ensures.1
     ∙ refused_in_slot a.version a.x a.rows.now a.frame.now a.message.now _ (met ∙ c.in_err-slot_cause.was)
 
 pub header_cause-requires : goal.header_cause-requires
 header_cause-requires c =
     let a = c.args in
-    let met = looked a.version a.x a.rows.now a.frame.now a.message.now _ _ _ c.receiver_len.ensures c.exactly_framed-exact.ensures c.slot_cause.ensures in
+    let met = looked a.version a.x a.rows.now a.frame.now a.message.now _ _ _ c.receiver_len.ensures c.exactly_framed-exact.ensures
+    c.slot_cause.ensures in
     long a.version a.x a.rows.now a.frame.now a.message.now (met ∙ c.in_ok-slot_cause.was)
 
 pub returns-in_err-header_cause : goal.returns-in_err-header_cause
 returns-in_err-header_cause c =
     let a = c.args in
-    let met = looked a.version a.x a.rows.now a.frame.now a.message.now _ _ _ c.receiver_len.ensures c.exactly_framed-exact.ensures c.slot_cause.ensures in
+    let met = looked a.version a.x a.rows.now a.frame.now a.message.now _ _ _ c.receiver_len.ensures c.exactly_framed-exact.ensures
+    c.slot_cause.ensures in
     refused_for _ _ c.from_residual-in_err-header_cause.ensures.1
     ∙ refused_by_header a.version a.x a.rows.now a.frame.now a.message.now (met ∙ c.in_ok-slot_cause.was) _
     (sym c.header_cause.ensures ∙ c.in_err-header_cause.was)
@@ -62,13 +65,15 @@ returns-in_err-header_cause c =
 pub agrees-requires : goal.agrees-requires
 agrees-requires c =
     let a = c.args in
-    let met = looked a.version a.x a.rows.now a.frame.now a.message.now _ _ _ c.receiver_len.ensures c.exactly_framed-exact.ensures c.slot_cause.ensures in
+    let met = looked a.version a.x a.rows.now a.frame.now a.message.now _ _ _ c.receiver_len.ensures c.exactly_framed-exact.ensures
+    c.slot_cause.ensures in
     (omega arith, omega arith, long a.version a.x a.rows.now a.frame.now a.message.now (met ∙ c.in_ok-slot_cause.was))
 
 pub returns-then-not-agrees : goal.returns-then-not-agrees
 returns-then-not-agrees c =
     let a = c.args in
-    let met = looked a.version a.x a.rows.now a.frame.now a.message.now _ _ _ c.receiver_len.ensures c.exactly_framed-exact.ensures c.slot_cause.ensures in
+    let met = looked a.version a.x a.rows.now a.frame.now a.message.now _ _ _ c.receiver_len.ensures c.exactly_framed-exact.ensures
+    c.slot_cause.ensures in
     let tested = c.agrees.ensures ∙ slot_test a.version a.x.settings a.x.due a.frame.now _ c.header_bytes.ensures in
     other_slot a.version a.x a.rows.now a.frame.now a.message.now (met ∙ c.in_ok-slot_cause.was)
     (sym c.header_cause.ensures ∙ c.in_ok-header_cause.was) (sym tested ∙ c.if-not-agrees.true)
@@ -76,7 +81,8 @@ returns-then-not-agrees c =
 pub returns : goal.returns
 returns c =
     let a = c.args in
-    let met = looked a.version a.x a.rows.now a.frame.now a.message.now _ _ _ c.receiver_len.ensures c.exactly_framed-exact.ensures c.slot_cause.ensures in
+    let met = looked a.version a.x a.rows.now a.frame.now a.message.now _ _ _ c.receiver_len.ensures c.exactly_framed-exact.ensures
+    c.slot_cause.ensures in
     let tested = c.agrees.ensures ∙ slot_test a.version a.x.settings a.x.due a.frame.now _ c.header_bytes.ensures in
     no_cause a.version a.x a.rows.now a.frame.now a.message.now (met ∙ c.in_ok-slot_cause.was)
     (sym c.header_cause.ensures ∙ c.in_ok-header_cause.was) (sym tested ∙ c.if-not-agrees.false)

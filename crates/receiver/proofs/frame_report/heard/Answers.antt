@@ -26,25 +26,31 @@ returns-in-Err c =
 
 pub record_heard-requires : goal.record_heard-requires
 record_heard-requires c =
-    let uncaused : frame_cause c.args.x c.args.rows.now c.args.frame.now c.args.message.now ≡ Ok tt = sym c.frame_cause.ensures ∙ c.in_default.is in
-    let clear : FrameOpen c.args.x c.args.rows.now c.args.message.now 1 c.args.frame.now = frame_open c.args.x c.args.rows.now c.args.message.now 1 c.args.frame.now (uncaused) in
+    let uncaused : frame_cause c.args.x c.args.rows.now c.args.frame.now c.args.message.now ≡ Ok tt = sym c.frame_cause.ensures
+    ∙ c.in_default.is in
+    let clear : FrameOpen c.args.x c.args.rows.now c.args.message.now 1 c.args.frame.now = frame_open c.args.x c.args.rows.now
+    c.args.message.now 1 c.args.frame.now (uncaused) in
     let f = clear in (f.settings, f.rows_exact, f.frame_exact)
 
 pub moved_on-requires : goal.moved_on-requires
 moved_on-requires c =
-    let uncaused : frame_cause c.args.x c.args.rows.now c.args.frame.now c.args.message.now ≡ Ok tt = sym c.frame_cause.ensures ∙ c.in_default.is in
-    let clear : FrameOpen c.args.x c.args.rows.now c.args.message.now 1 c.args.frame.now = frame_open c.args.x c.args.rows.now c.args.message.now 1 c.args.frame.now (uncaused) in
+    let uncaused : frame_cause c.args.x c.args.rows.now c.args.frame.now c.args.message.now ≡ Ok tt = sym c.frame_cause.ensures
+    ∙ c.in_default.is in
+    let clear : FrameOpen c.args.x c.args.rows.now c.args.message.now 1 c.args.frame.now = frame_open c.args.x c.args.rows.now
+    c.args.message.now 1 c.args.frame.now (uncaused) in
     let f = clear in (
       f.settings,
       f.in_time_lem,
       ap length c.record_heard.ensures
-          ∙ kept c.args.x.settings c.args.x.due c.args.rows.now (1 ∷ drop 14 c.args.frame.now) f.rows_exact (row_fits c.args.x.settings c.args.frame.now f.frame_exact),
+          ∙ kept c.args.x.settings c.args.x.due c.args.rows.now (1 ∷ drop 14 c.args.frame.now) f.rows_exact
+          (row_fits c.args.x.settings c.args.frame.now f.frame_exact),
       f.message_exact,
     )
 
 pub returns : goal.returns
 unfolding moved_on
 returns c =
-    let uncaused : frame_cause c.args.x c.args.rows.now c.args.frame.now c.args.message.now ≡ Ok tt = sym c.frame_cause.ensures ∙ c.in_default.is in
+    let uncaused : frame_cause c.args.x c.args.rows.now c.args.frame.now c.args.message.now ≡ Ok tt = sym c.frame_cause.ensures
+    ∙ c.in_default.is in
     c.moved_on.ensures ∙ ap (told_by c.args.x) c.record_heard.ensures
     ∙ sym (heard_moves c.args.x c.args.rows.now c.args.frame.now c.args.message.now (uncaused))

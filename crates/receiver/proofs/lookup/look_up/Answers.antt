@@ -34,18 +34,25 @@ looked x rows number message t same none r after says holds =
 
 pub returns-in_err-look_up_cause : goal.returns-in_err-look_up_cause
 returns-in_err-look_up_cause c =
-    let cause : c.look_up_cause.result ≡ look_up_cause c.args.x c.args.rows.now c.args.number c.args.message.now = subst (λ (z : ℤ). c.look_up_cause.result ≡ look_up_cause c.args.x c.args.rows.now z c.args.message.now)
+    let cause : c.look_up_cause.result
+    ≡ look_up_cause c.args.x c.args.rows.now c.args.number c.args.message.now = subst
+    (λ (z : ℤ). c.look_up_cause.result ≡ look_up_cause c.args.x c.args.rows.now z c.args.message.now)
     (to_z-of_z w64 c.args.number c.ranges.number) c.look_up_cause.ensures in
     ap (λ (r : Reply). record { reply = r; message = c.args.message.now }) (refused_for _ _ c.from_residual.ensures.1)
     ∙ sym (look_up_stays c.args.x c.args.rows.now c.args.number c.args.message.now _ (sym (cause) ∙ c.in_err-look_up_cause.was))
 
 pub returns : goal.returns
 returns c =
-    let cause : c.look_up_cause.result ≡ look_up_cause c.args.x c.args.rows.now c.args.number c.args.message.now = subst (λ (z : ℤ). c.look_up_cause.result ≡ look_up_cause c.args.x c.args.rows.now z c.args.message.now)
+    let cause : c.look_up_cause.result
+    ≡ look_up_cause c.args.x c.args.rows.now c.args.number c.args.message.now = subst
+    (λ (z : ℤ). c.look_up_cause.result ≡ look_up_cause c.args.x c.args.rows.now z c.args.message.now)
     (to_z-of_z w64 c.args.number c.ranges.number) c.look_up_cause.ensures in
-    let uncaused : look_up_cause c.args.x c.args.rows.now c.args.number c.args.message.now ≡ Ok tt = sym (cause) ∙ c.in_ok-look_up_cause.was in
-    let clear : LossOpen c.args.x c.args.rows.now c.args.message.now = (look_up_open c.args.x c.args.rows.now c.args.number c.args.message.now (uncaused)).0 in
-    let reach : (t : ℕ) × InReach c.args.x.settings c.args.x.due c.args.number t = let (clear, t, within) = look_up_open c.args.x c.args.rows.now c.args.number c.args.message.now (uncaused) in
+    let uncaused : look_up_cause c.args.x c.args.rows.now c.args.number c.args.message.now ≡ Ok tt = sym (cause)
+    ∙ c.in_ok-look_up_cause.was in
+    let clear : LossOpen c.args.x c.args.rows.now c.args.message.now =
+    (look_up_open c.args.x c.args.rows.now c.args.number c.args.message.now (uncaused)).0 in
+    let reach : (t : ℕ) × InReach c.args.x.settings c.args.x.due c.args.number t = let (clear, t, within) = look_up_open c.args.x
+    c.args.rows.now c.args.number c.args.message.now (uncaused) in
     (t, within) in
     let read : to_z w64 (of_z w64 c.args.number) ≡ pos (reach).0 = to_z-of_z w64 c.args.number c.ranges.number ∙ (reach).1.0 in
     let f = clear in
@@ -59,11 +66,16 @@ returns c =
 pub overflow_cast-number : goal.overflow_cast-number
 unfolding last_slot
 overflow_cast-number c =
-    let cause : c.look_up_cause.result ≡ look_up_cause c.args.x c.args.rows.now c.args.number c.args.message.now = subst (λ (z : ℤ). c.look_up_cause.result ≡ look_up_cause c.args.x c.args.rows.now z c.args.message.now)
+    let cause : c.look_up_cause.result
+    ≡ look_up_cause c.args.x c.args.rows.now c.args.number c.args.message.now = subst
+    (λ (z : ℤ). c.look_up_cause.result ≡ look_up_cause c.args.x c.args.rows.now z c.args.message.now)
     (to_z-of_z w64 c.args.number c.ranges.number) c.look_up_cause.ensures in
-    let uncaused : look_up_cause c.args.x c.args.rows.now c.args.number c.args.message.now ≡ Ok tt = sym (cause) ∙ c.in_ok-look_up_cause.was in
-    let clear : LossOpen c.args.x c.args.rows.now c.args.message.now = (look_up_open c.args.x c.args.rows.now c.args.number c.args.message.now (uncaused)).0 in
-    let reach : (t : ℕ) × InReach c.args.x.settings c.args.x.due c.args.number t = let (clear, t, within) = look_up_open c.args.x c.args.rows.now c.args.number c.args.message.now (uncaused) in
+    let uncaused : look_up_cause c.args.x c.args.rows.now c.args.number c.args.message.now ≡ Ok tt = sym (cause)
+    ∙ c.in_ok-look_up_cause.was in
+    let clear : LossOpen c.args.x c.args.rows.now c.args.message.now =
+    (look_up_open c.args.x c.args.rows.now c.args.number c.args.message.now (uncaused)).0 in
+    let reach : (t : ℕ) × InReach c.args.x.settings c.args.x.due c.args.number t = let (clear, t, within) = look_up_open c.args.x
+    c.args.rows.now c.args.number c.args.message.now (uncaused) in
     (t, within) in
     let read : to_z w64 (of_z w64 c.args.number) ≡ pos (reach).0 = to_z-of_z w64 c.args.number c.ranges.number ∙ (reach).1.0 in
     let in_time_lem = clear.in_time_lem in

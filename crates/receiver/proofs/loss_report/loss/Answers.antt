@@ -30,7 +30,8 @@ moved_on-requires c =
       f.settings,
       f.in_time_lem,
       ap length c.record_lost.ensures
-          ∙ kept c.args.x.settings c.args.x.due c.args.rows.now (replicate (row_len c.args.x.settings) 0) f.rows_exact (length-replicate (row_len c.args.x.settings) 0),
+          ∙ kept c.args.x.settings c.args.x.due c.args.rows.now (replicate (row_len c.args.x.settings) 0) f.rows_exact
+          (length-replicate (row_len c.args.x.settings) 0),
       f.message_exact,
     )
 

@@ -36,11 +36,15 @@ returns-then-x-delay c =
 pub returns : goal.returns
 unfolding message_due
 returns c =
-    let says = told c.args.x.settings c.args.rows.now (c.args.x.due + 1) (c.args.x.due - _) c.args.message.now c.requires.0 c.requires.2 c.requires.3
+    let says = told c.args.x.settings c.args.rows.now (c.args.x.due + 1) (c.args.x.due - _) c.args.message.now c.requires.0 c.requires.2
+    c.requires.3
     c.decide.result _ c.decide.ensures in
     told_by_lem c.args.x c.args.rows.now c.next_receiver-state.result c.decide.result _ c.next_receiver-state.ensures
-    (rw (le-ltb c.args.x.due (delay_of c.args.x.settings) (omega arith)) (says.0 ∙ ap (λ (d : ℕ). verdict c.args.x.settings c.args.rows.now (c.args.x.due + 1) (c.args.x.due - d)) c.effective_delay-delay.ensures))
-    (says.1 ∙ ap (λ (d : ℕ). buffer_of c.args.x.settings c.args.rows.now (c.args.x.due + 1) (c.args.x.due - d) c.decide.result) c.effective_delay-delay.ensures)
+    (rw (le-ltb c.args.x.due (delay_of c.args.x.settings) (omega arith))
+    (says.0 ∙ ap (λ (d : ℕ). verdict c.args.x.settings c.args.rows.now (c.args.x.due + 1) (c.args.x.due - d))
+    c.effective_delay-delay.ensures))
+    (says.1 ∙ ap (λ (d : ℕ). buffer_of c.args.x.settings c.args.rows.now (c.args.x.due + 1) (c.args.x.due - d) c.decide.result)
+    c.effective_delay-delay.ensures)
 
 pub overflow_add-x : goal.overflow_add-x
 unfolding last_slot
