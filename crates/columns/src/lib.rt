@@ -1,4 +1,5 @@
-// One position of an elimination: its pivot is looked for, scaled to 1, and cleared from the other rows.
+// One position of an elimination: its pivot is looked for, scaled to 1, and cleared from the other rows. A position and a number of rows
+// stay numbers with a bound each: the arrays are indexed by them.
 #![tactic(auto)]
 
 ghost use Rattle.std.specs.Prelude.{◌≡◌, ◌≤◌, ◌<◌, MatchOption, eqb, length, get_or};

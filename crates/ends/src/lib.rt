@@ -1,4 +1,5 @@
-// What both ends share in code: their states, made here alone, as protocol's specs/States.antt says.
+// What both ends share in code: their states, made here alone, as protocol's specs/States.antt says. A state may have any slot due, and a
+// call refuses it past the last one, so that a bound on it is a clause of what moves it on.
 #![tactic(auto)]
 
 ghost use Rattle.std.specs.Prelude.{◌≡◌, ◌≤◌};

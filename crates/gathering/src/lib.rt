@@ -13,6 +13,7 @@ pub struct Source {
     pub keep: u8,
 }
 
+// `Wide` stays a clause: a proof does not learn how long the inner arrays of a lent array are.
 // Puts the bytes of two sources over the first lanes of the two vectors of pair j, and their sums over the third.
 pub fn pair_up(
     pairs: &mut [[u8; 64]; 32],

@@ -1,4 +1,5 @@
-// The halves of the coefficients in a column, two in a byte, and the bits that they use.
+// The halves of the coefficients in a column, two in a byte, and the bits that they use. The count stays beside the array: loops over an
+// array of a fixed length become vector code.
 #![tactic(auto)]
 
 ghost use Rattle.std.specs.Prelude.{◌≡◌, [], ℕ, ◌*◌, ◌/◌, ◌%◌, ◌<◌, ◌≤◌, get_or};

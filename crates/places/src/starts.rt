@@ -19,7 +19,8 @@ pub struct Located {
     pub roles: [u8; 16],
 }
 
-// Where the row of slot t - i begins.
+// Where the row of slot t - i begins. Here and below, the settings, the rows and the slots stay parameters with their facts as clauses: a
+// proof does not learn of a slice in a struct that it holds bytes.
 fn first_start(s: Settings, t: usize, i: usize) -> usize
     requires { T (accepted s) × (t < 4294967296) × (i < k_of s) }
     ensures { result ≡ row_at s t i 0 }

@@ -1,4 +1,5 @@
-// What an opening and a report write into the receiver's ring of rows.
+// What an opening and a report write into the receiver's ring of rows. That the settings are accepted stays a clause: the definitions
+// speak of settings, and a type of accepted ones would be opened in each.
 #![tactic(auto)]
 
 ghost use Rattle.std.specs.Prelude.{◌∷◌, ◌≡◌, ◌+◌, ◌*◌, ◌%◌, ◌≤◌, ◌<◌, T, length, drop, replicate};
