@@ -6,7 +6,8 @@ ghost use Rattle.gathering.specs.Pairs.{Wide, paired_up};
 
 use gf256::Gf256;
 
-// Where the bytes of a vector begin, and the mask that they are taken under: 255, or 0 for zeros.
+// Where the bytes of a vector begin, and the mask that they are taken under: 255, or 0 for zeros. With an Option of a place each lane would
+// have a test, and the loop would be no vector code.
 #[derive(Clone, Copy)]
 pub struct Source {
     pub start: usize,

@@ -7,7 +7,8 @@ use crate::check::pair_cause;
 use crate::search::Ordered;
 use code::Settings;
 
-// Of a pair that is accepted: the first's frame of the slot, else the second's, else an empty part.
+// Of a pair that is accepted: the first's frame of the slot, else the second's, else an empty part. That it is accepted is a clause, for
+// whose bytes are lent, and from which on, is said by the addresses of the two slices.
 pub fn part<'a>(s: Settings, first: &'a [u8], second: &'a [u8], slot: u32) -> &'a [u8]
     requires { pair_cause s first.now second.now ≡ 0 }
     ensures bytes { result.now

@@ -28,6 +28,7 @@ impl<'a> Ordered<'a> {
     }
 
     // The frames between these two halved, until none is left: those before `low` stand for lower slots, those from `high` on do not.
+    // Frames, whose length is known at run time alone, are no slice of elements that the library would search.
     fn halve(self, slot: u32, low: usize, high: usize) -> usize
         requires { Bracket self.recorded.settings self.recorded.bytes.now slot low high }
         ensures { result ≡ below self.entry.recorded.settings self.entry.recorded.bytes.now slot }

@@ -1,4 +1,4 @@
-// A length as the static library gives it.
+// A length as the static library gives it to C, where a length that there is none of is 0.
 ghost use Rattle.std.specs.Prelude.{cond, ◌≡◌};
 ghost use Rattle.code.specs.Settings.{accepted};
 

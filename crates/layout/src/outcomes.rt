@@ -1,5 +1,5 @@
-// What a call leaves of the state that it was lent, and its number. Two functions of two lines each: one
-// over both results would need a trait for the number of what is told. That the state has its length stays a clause: `save_answer` and
+// What a call leaves of the state that it was lent, and its number. Two functions of two lines each are plainer than one over both results,
+// which takes a trait for the number of what is told, and its law. That the state has its length is a clause: `save_answer` and
 // `save_reply`, which docs/ names, are lent any slice.
 ghost use Rattle.std.specs.Prelude.{◌≡◌, length};
 ghost use Rattle.protocol.specs.Histories.{is_accepted, accepts};

@@ -1,4 +1,5 @@
-// The writers of lines, over the start of a lent line that has room.
+// The writers of lines, over the start of a lent line that has room. The room is a clause here and in the steps above: the line is any
+// slice, and where the next one begins in it moves on.
 ghost use Rattle.std.specs.Prelude.{◌++◌, ◌+◌, ◌*◌, ◌≤◌, length};
 ghost use Rattle.numbers.specs.Digits.{decimal};
 ghost use Rattle.lines.specs.Text.{stop_text, line_of, Writes};

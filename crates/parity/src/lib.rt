@@ -16,8 +16,8 @@ use vectors::weighted;
 
 // Writes the B parity symbols of the frame of the slot due, each in all lanes: the sum of the k source symbols, each by its entry of the
 // systematic form.
-// The rows, the settings and the slot due are no struct: a proof does not learn of a slice in a struct that it holds bytes, and the sum is
-// one of bytes.
+// The rows, the settings and the slot due are no struct: it would carry three facts as ghost fields, that the rows hold bytes too, and be
+// opened in every definition.
 #[tactic(auto, using(code::proofs::Shape::shape))]
 pub fn write_parities(out: &mut [u8], rows: &[u8], s: Settings, due: u32)
     requires { T (accepted s) × (length rows.now ≡ sender_len s) × (length out.old ≡ s.burst * s.lanes) }

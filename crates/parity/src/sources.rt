@@ -34,7 +34,8 @@ fn source(s: Settings, row: usize, i: usize) -> Source
 }
 
 // Gathers the k source symbols of every lane that position p is the sum of, two a turn.
-// Source symbol i is of the message sent p - i slots before the slot due, so that each stands a row further on in the ring.
+// Source symbol i is of the message sent p - i slots before the slot due, so that each stands a row further on in the ring. The `gather`
+// of shares looks each source up; here a row leads to the next, and a closure for both would carry that row and its bound.
 #[tactic(auto, using(code::proofs::Shape::shape))]
 pub(crate) fn gather(pairs: &mut [[u8; 64]; 32], rows: &[u8], s: Settings, due: u32, p: usize)
     requires { T (accepted s) × (length rows.now ≡ sender_len s) × (k_of s ≤ p) × (p < n_of s) × Wide pairs.old }

@@ -11,7 +11,7 @@ use buffers::{receiver_len, row_count, row_len};
 use code::Settings;
 
 // Where each position's symbol stands, the bytes of all lanes in its row; whether it is known, if it is a parity position; and the roles
-// of the rows at the start.
+// of the rows at the start. A flag stays a byte, 1 where it is known: `left_flag` and `left_from` speak of flags of any number.
 #[derive(Clone, Copy)]
 pub struct Located {
     pub places: [usize; 16],
@@ -20,7 +20,7 @@ pub struct Located {
 }
 
 // Where the row of slot t - i begins. Here and below, the settings, the rows and the slots stay parameters with their facts as clauses: a
-// proof does not learn of a slice in a struct that it holds bytes.
+// struct of them would carry each fact as a ghost field, that rows hold bytes too, and be opened in every definition.
 fn first_start(s: Settings, t: usize, i: usize) -> usize
     requires { T (accepted s) × (t < 4294967296) × (i < k_of s) }
     ensures { result ≡ row_at s t i 0 }

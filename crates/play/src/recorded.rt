@@ -17,7 +17,8 @@ pub(crate) trait Recorded {
     // How much of it a player has left.
     ghost left: { Self → Player → ℕ };
 
-    // The settings that it is played with, if it is not empty, or the number of the cause that refuses it.
+    // The settings that it is played with, if it is not empty, or the number of the cause that refuses it,
+    // since the causes of one recording and of a pair are two types, and a line of `stop` has the number alone.
     fn start(&self) -> Result<Option<Settings>, u32>
         ensures { IfOk result (λ o. IfSome o (λ s. T (accepted s) × accepts self.now s)) };
 

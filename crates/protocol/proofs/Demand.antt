@@ -75,7 +75,7 @@ module _ (s : Settings) (ok : T (accepted s)) (calls : List Send) (bytes : (c : 
       → Truthful s rows due t messages (lost_since d (lost_at told))
   truthful rows due t c to = record {
     heard_known = λ i v p hi hv hp now kept. known_if c t to i p v hi now
-    (not-true (lost_position (lost_since d (lost_at told)) t i p) kept);
+        (not-true (lost_position (lost_since d (lost_at told)) t i p) kept);
     known_true = λ i v p hi hv hp known.
         came_true t i v p ((arrived s rows due t i v).byte p) hp hv ((known_came c t to i p v hi hp hv _).0 (known, refl)).1;
   }

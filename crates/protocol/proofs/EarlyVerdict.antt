@@ -50,9 +50,11 @@ module _ {s : Settings} {first : ℕ → List ℕ} {d : ℕ} {told : List Report
   arrived_part i v hi hv p hp known =
       let early : due ≤ t + delay_of s + 1 = omega arith in
       let (now, flag) = (known_flag_lem c t early i p v hi).0 known in
-      let then : t + p < due' + i = omega arith in
-      ((known_flag_lem c' t to i p v hi).1 (then, flag), byte_says c t early i p v hi hp hv now
-      ∙ sym (byte_says c' t to i p v hi hp hv then))
+      let then : t + p < due' + i = omega arith in (
+        (known_flag_lem c' t to i p v hi).1 (then, flag),
+        byte_says c t early i p v hi hp hv now
+            ∙ sym (byte_says c' t to i p v hi hp hv then),
+      )
 
   -- so whole stays whole, with the same bytes, where some word still fits each codeword
   pub whole_stays : 0 < s.lanes → ((i v : ℕ) → i < k_of s → v < s.lanes → (u : ℕ → ℕ) × Fitting s (arrived s rows' due' t i v) u)

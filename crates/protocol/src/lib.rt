@@ -33,17 +33,17 @@ pub struct Receiver {
     pub due: u32,
 }
 
-// Why a call says no, in the order of checking; `number_of` of specs/Causes.antt has the numbers.
+// Why a call says no, in the order of checking, each with its number, as `number_of` of specs/Causes.antt says.
 #[derive(Clone, Copy)]
 pub enum Cause {
-    BadSettings,
-    BadLength,
-    PastLastSlot,
-    OtherMark,
-    OtherSettings,
-    OtherSlot,
-    LateOpening,
-    OutOfReach,
+    BadSettings = 1,
+    BadLength = 2,
+    PastLastSlot = 3,
+    OtherMark = 4,
+    OtherSettings = 5,
+    OtherSlot = 6,
+    LateOpening = 7,
+    OutOfReach = 8,
 }
 
 // What a report or a look-up that was accepted tells of its message.

@@ -15,7 +15,8 @@ pub struct Reader<'a> {
     pub offset: usize,
 }
 
-// What stands at an offset of a recording. An Option would have one case for a part and for the end.
+// What stands at an offset of a recording, in three cases, as `found_at` says; a part ends a recording as a refusal does, and is no error
+// here.
 #[derive(Clone, Copy)]
 pub enum Found {
     // A whole frame, by the places where it starts and where the next one would.

@@ -96,7 +96,8 @@ pub fn receiver_bytes(x: Receiver) -> [u8; STATE_LEN]
     state_bytes(RECEIVER_END, x.settings, x.due, x.opening)
 }
 
-// Writes these bytes over the state where the call was taken; else it stays as it was.
+// Writes these bytes over the state where the call was taken; else it stays as it was. The test stays beside the bytes, as `saved` has
+// them.
 pub fn save(taken: bool, bytes: [u8; STATE_LEN], state: &mut [u8])
     requires { length state.old ≡ state_len }
     ensures { state.new ≡ saved taken bytes state.old }

@@ -91,8 +91,7 @@ pub passed : (recording : List ℕ) → recording_cause recording ≡ Ok tt
 unfolding recording_cause
 passed recording e =
     let whole : Bool = eqb (length recording % frame_len (settings_in recording)) 0 in
-    let free = all-clear (recording_table recording) e in
-    (
+    let free = all-clear (recording_table recording) e in (
       passes (accepted (settings_in recording)) free.1.0,
       eqb-true (length recording % frame_len (settings_in recording)) 0 (not-false whole free.1.1.0),
     )

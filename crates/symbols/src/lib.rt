@@ -16,7 +16,7 @@ use reduction::eliminate;
 use shares::Codewords;
 
 // Symbol i of message t in all lanes: its grade, and its bytes where it is whole; else `out` stays as it was lent. The matrix is the
-// systematic form.
+// systematic form. Settings, rows and slots are parameters for the reason that places has; matrix and reciprocals are lent by `decided`.
 pub fn write_symbol(
     s: Settings,
     rows: &[u8],

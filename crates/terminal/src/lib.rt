@@ -7,7 +7,8 @@ ghost use Rattle.terminal.specs.Given.{report_in};
 
 use protocol::{Cause, Outcome, Receiver, Told};
 
-// A report by value: of a frame where `heard`, else of a loss, which has no frame to read.
+// A report by value: of a frame where `heard`, else of a loss, which has no frame to read. The frame stays beside `heard`: `report_in`,
+// which the contracts cite, takes both. The lent form stands over this one, and `report_kept` over the lent form, so that it is what runs.
 #[tactic(auto, unfolding(crate::specs::Given::report_in, protocol::specs::TwoLists::report_of))]
 fn reported(
     x: Receiver,

@@ -71,7 +71,8 @@ fn sum<W: Write>(out: &mut Output<W>, bytes: &[u8]) {
     write!(out, " {total}");
 }
 
-// The line of an opening of the sender.
+// The line of an opening of the sender. That of the receiver differs in two words, its name and its state, which a trait would say at more
+// length.
 pub(crate) fn opened_sender<W: Write>(
     out: &mut Output<W>,
     opened: Outcome<(), Sender>,
