@@ -21,18 +21,15 @@ few s row i m passed below inside is =
 
 pub overflow_mul-result : goal.overflow_mul-result
 overflow_mul-result c =
-    let ends = few c.args.s c.args.row c.args.i c.message_len.result c.requires.0 c.requires.1 (omega arith) c.message_len.ensures in
-    omega arith
+    omega (arith, few _ _ c.args.i _ c.requires.0 c.requires.1 (omega arith) c.message_len.ensures)
 
 pub overflow_mul-result-then-i-sources : goal.overflow_mul-result-then-i-sources
 overflow_mul-result-then-i-sources c =
-    let ends = few c.args.s c.args.row c.args.i c.message_len.result c.requires.0 c.requires.1 (omega arith) c.message_len.ensures in
-    omega arith
+    omega (arith, few _ _ c.args.i _ c.requires.0 c.requires.1 (omega arith) c.message_len.ensures)
 
 pub overflow_add-result : goal.overflow_add-result
 overflow_add-result c =
-    let ends = few c.args.s c.args.row c.args.i c.message_len.result c.requires.0 c.requires.1 (omega arith) c.message_len.ensures in
-    omega arith
+    omega (arith, few _ _ c.args.i _ c.requires.0 c.requires.1 (omega arith) c.message_len.ensures)
 
 pub returns-then-i-sources : goal.returns-then-i-sources
 returns-then-i-sources c =
