@@ -25,29 +25,35 @@ use Rattle.lanes.specs.Lanes.{Own, clash_at, lanes_clash}
 use Rattle.lanes.proofs.Combined.{weighted_combined}
 
 module _ (s : Settings) (x : Reduced) (flags places bytes : List ℕ) where
+  -- lane v differs from its combined sum at position q
+  abbrev differing : ℕ → ℕ → Bool
+  differing v q = unlike (combined s x (lane_byte s places bytes v) q) (lane_byte s places bytes v q)
+
   -- at a known position
-  pub clash_found : (q : ℕ) → q < n_of s → known_in s flags q ≡ true → clash_at s x places bytes q ≡ true → lanes_clash s x flags places bytes ≡ true
+  pub clash_found : (q : ℕ) → q < n_of s → known_in s flags q ≡ true → clash_at s x places bytes q ≡ true
+      → lanes_clash s x flags places bytes ≡ true
   unfolding clash_at lanes_clash clashes
   clash_found q below known e =
-      let found = any_at s.lanes (λ v. unlike (combined s x (lane_byte s places bytes v) q) (lane_byte s places bytes v q)) (subst⁻¹ T e tt) in
+      let found = any_at s.lanes (λ v. differing v q) (subst⁻¹ T e tt) in
       let v : ℕ = found.0 in
       any-one s.lanes (λ v. clashes s x (known_in s flags) (lane_byte s places bytes v)) v found.1
-      (some_any (n_of s) (λ q. known_in s flags q && unlike (combined s x (lane_byte s places bytes v) q) (lane_byte s places bytes v q)) q below
-      (both_pass (known_in s flags q) (unlike (combined s x (lane_byte s places bytes v) q) (lane_byte s places bytes v q)) (subst⁻¹ T known tt) found.2))
+      (some_any (n_of s) (λ q. known_in s flags q && differing v q) q below
+      (both_pass (known_in s flags q) (differing v q) (subst⁻¹ T known tt) found.2))
 
   -- at none
-  pub clash_none : ((q : ℕ) → q < n_of s → T (known_in s flags q && clash_at s x places bytes q) → ⊥) → lanes_clash s x flags places bytes ≡ false
+  pub clash_none : ((q : ℕ) → q < n_of s → T (known_in s flags q && clash_at s x places bytes q) → ⊥)
+      → lanes_clash s x flags places bytes ≡ false
   unfolding clash_at lanes_clash clashes
   clash_none none =
       any_none s.lanes (λ v. clashes s x (known_in s flags) (lane_byte s places bytes v))
       (λ v h t.
-      let found = any_at (n_of s) (λ q. known_in s flags q && unlike (combined s x (lane_byte s places bytes v) q) (lane_byte s places bytes v q)) t in
+      let found = any_at (n_of s) (λ q. known_in s flags q && differing v q) t in
       let q : ℕ = found.0 in
       let known : Bool = known_in s flags q in
-      let differs : Bool = unlike (combined s x (lane_byte s places bytes v) q) (lane_byte s places bytes v q) in
+      let differs : Bool = differing v q in
       none q found.1
       (both_pass known (clash_at s x places bytes q) (and_left known differs found.2)
-      (some_any s.lanes (λ v. unlike (combined s x (lane_byte s places bytes v) q) (lane_byte s places bytes v q)) v h (and_right known differs found.2))))
+      (some_any s.lanes (λ v. differing v q) v h (and_right known differs found.2))))
 
   module _ (pairs : List (List ℕ)) (h : Shape s) (shared : Shared s x.roles places bytes pairs) where
     -- the weighted sums clash where the combined sums do

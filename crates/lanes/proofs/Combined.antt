@@ -38,7 +38,8 @@ module _ (s : Settings) (x : Reduced) (places bytes : List ℕ) where
       go false = ap (λ (b : ℕ). byte ⊗ b) e ∙ times_zero byte
 
   -- a row at q by the byte at its pivot's position is its share
-  pub share_term : (q r v : ℕ) → n_of s ≤ 16 → r < k_of s → cell x.rows r q ⊗ row_byte s x.roles places bytes r v ≡ share s x places bytes q r v
+  pub share_term : (q r v : ℕ) → n_of s ≤ 16 → r < k_of s
+      → cell x.rows r q ⊗ row_byte s x.roles places bytes r v ≡ share s x places bytes q r v
   unfolding free
   share_term q r v few h =
       ap (λ (p : ℕ). cell x.rows r q ⊗ lane_byte s places bytes v p) (sym (role_row s x.roles r h)) ∙ go (free x.roles r) refl
@@ -84,8 +85,8 @@ module _ (s : Settings) (x : Reduced) (places bytes : List ℕ) where
       → table s.lanes (λ v. get_or (weighted_of x.rows q pairs (pairs_of (k_of s))) v 0) ≡ combined_lanes s x places bytes q
   unfolding combined_lanes
   sums_combined pairs h shared q =
-      table_equal s.lanes (λ v. get_or (weighted_of x.rows q pairs (pairs_of (k_of s))) v 0) (λ v. combined s x (lane_byte s places bytes v) q)
-      (weighted_combined pairs h shared q)
+      table_equal s.lanes (λ v. get_or (weighted_of x.rows q pairs (pairs_of (k_of s))) v 0)
+      (λ v. combined s x (lane_byte s places bytes v) q) (weighted_combined pairs h shared q)
 
   module _ (i : ℕ) (own : Own s x i) (role : get_or x.roles i 16 ≡ i) (h : Shape s) (below : i < k_of s) where
     -- row i is a pivot
@@ -101,7 +102,8 @@ module _ (s : Settings) (x : Reduced) (places bytes : List ℕ) where
     own_here = own role i below ∙ ap (λ (t : Bool). cond t 1 0) (eq-eqb i i refl)
 
     -- the combined sum there is the byte itself
-    pub own_combined : ((j : ℕ) → get_or bytes j 0 < 256) → (v : ℕ) → lane_byte s places bytes v i ≡ combined s x (lane_byte s places bytes v) i
+    pub own_combined : ((j : ℕ) → get_or bytes j 0 < 256) → (v : ℕ)
+        → lane_byte s places bytes v i ≡ combined s x (lane_byte s places bytes v) i
     unfolding combined
     own_combined small v =
         let byte : ℕ = lane_byte s places bytes v i in
@@ -113,7 +115,9 @@ module _ (s : Settings) (x : Reduced) (places bytes : List ℕ) where
         ∙ times_comm byte 1
         ∙ one_times byte (lane_below s places bytes v i small (omega arith)))
 
-    pub own_lanes : ((j : ℕ) → get_or bytes j 0 < 256) → table s.lanes (λ v. lane_byte s places bytes v i) ≡ combined_lanes s x places bytes i
+    pub own_lanes : ((j : ℕ) → get_or bytes j 0 < 256)
+        → table s.lanes (λ v. lane_byte s places bytes v i) ≡ combined_lanes s x places bytes i
     unfolding combined_lanes
     own_lanes small =
-        table_equal s.lanes (λ v. lane_byte s places bytes v i) (λ v. combined s x (lane_byte s places bytes v) i) (λ v lane. own_combined small v)
+        table_equal s.lanes (λ v. lane_byte s places bytes v i) (λ v. combined s x (lane_byte s places bytes v) i)
+        (λ v lane. own_combined small v)

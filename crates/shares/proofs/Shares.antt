@@ -43,7 +43,8 @@ module _ (s : Settings) (places bytes : List ℕ) (p : ℕ) where
 
   -- they are those of all lanes
   pub part_table : p < n_of s → get_or places p 0 + s.lanes ≤ length bytes
-      → take (get_or places p 0 + s.lanes - get_or places p 0) (drop (get_or places p 0) bytes) ≡ table s.lanes (λ v. lane_byte s places bytes v p)
+      → take (get_or places p 0 + s.lanes - get_or places p 0) (drop (get_or places p 0) bytes)
+      ≡ table s.lanes (λ v. lane_byte s places bytes v p)
   part_table below inside =
       let start : ℕ = get_or places p 0 in
       is_table s.lanes (λ v. lane_byte s places bytes v p) 0 (take (start + s.lanes - start) (drop start bytes))
@@ -92,7 +93,8 @@ module _ (s : Settings) (places : List ℕ) (p : ℕ) where
       source_each (λ x. x.start + s.lanes ≤ length bytes) (inside p) (λ _. inside 0 (omega arith))
 
   -- and has the bytes of the lanes
-  source_byte : (bytes : List ℕ) → ((q : ℕ) → get_or bytes q 0 < 256) → (v : ℕ) → byte_of bytes (source_at s places p) v ≡ lane_byte s places bytes v p
+  source_byte : (bytes : List ℕ) → ((q : ℕ) → get_or bytes q 0 < 256) → (v : ℕ)
+      → byte_of bytes (source_at s places p) v ≡ lane_byte s places bytes v p
   source_byte bytes small v =
       source_each (λ x. byte_of bytes x v ≡ lane_byte s places bytes v p)
       (λ h. byte_kept bytes arrived v (small (get_or places p 0 + v)) refl ∙ lane_inside s places bytes v p h)
@@ -115,10 +117,11 @@ module _ (s : Settings) (roles places bytes : List ℕ) (h : Shape s) where
 
   pub all-paired : Paired (pairs_of (k_of s)) all
   all-paired =
-      gathered_paired bytes s.lanes (source_of s roles places) blank_pairs h.lanes_few blank_wide (pairs_of (k_of s)) (pairs_of (k_of s)) pairs_few
-      (blank_paired (pairs_of (k_of s)) pairs_few)
+      gathered_paired bytes s.lanes (source_of s roles places) blank_pairs h.lanes_few blank_wide (pairs_of (k_of s)) (pairs_of (k_of s))
+      pairs_few (blank_paired (pairs_of (k_of s)) pairs_few)
 
   pub all-shared : ((q : ℕ) → get_or bytes q 0 < 256) → Shared s roles places bytes all
   all-shared small r v below lane =
-      gathered_vector bytes s.lanes (source_of s roles places) blank_pairs h.lanes_few blank_wide (pairs_of (k_of s)) r v pairs_few below lane
+      gathered_vector bytes s.lanes (source_of s roles places) blank_pairs h.lanes_few blank_wide (pairs_of (k_of s)) r v pairs_few below
+      lane
       ∙ source_byte s places (role_of s roles r) bytes small v

@@ -59,7 +59,8 @@ module _ (s : Settings) (rows : List ℕ) (due t i : ℕ) (x : Reduced) (flags p
         (ap is_lost (sym (agrees 0) ∙ symbol_lost s x (known_in s flags) (lane_byte s places rows 0) i (lane_clear 0 some) d)) tt)
 
     -- and one that does not is whole in each
-    lane_whole : differs s x i ≡ false → (v : ℕ) → v < s.lanes → symbol_said s rows due t i v ≡ symbol.Whole (combined s x (lane_byte s places rows v) i)
+    lane_whole : differs s x i ≡ false → (v : ℕ) → v < s.lanes
+        → symbol_said s rows due t i v ≡ symbol.Whole (combined s x (lane_byte s places rows v) i)
     lane_whole d v h =
         sym (agrees v) ∙ symbol_whole s x (known_in s flags) (lane_byte s places rows v) i (lane_clear v h) d
 

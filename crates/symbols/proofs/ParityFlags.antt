@@ -56,7 +56,8 @@ module _ (s : Settings) (passed : T (accepted s)) (flags : List ℕ) where
         inr (source_solved s passed (known_in s flags) q source (rw (lt-ltb q (n_of s) (omega arith), one) tt)))
         (two q source)
 
-    parity_left : Unsolved s flags (eliminated s (known_in s flags)).roles (left_from s (started s (known_in s flags)) (parity_flags s flags))
+    parity_left : Unsolved s flags (eliminated s (known_in s flags)).roles
+        (left_from s (started s (known_in s flags)) (parity_flags s flags))
     unfolding Unsolved
     parity_left q word =
         ⊎_elim
@@ -88,4 +89,5 @@ module _ (s : Settings) (passed : T (accepted s)) (flags : List ℕ) where
 
     pub located_left : ((q : ℕ) → q < k_of s → (get_or flags q 0 ≡ 0) ⊎ (get_or flags q 0 ≡ 1))
         → Unsolved s flags (eliminated s (known_in s flags)).roles (left_from s (both m roles) parity)
-    located_left two = subst⁻¹ (Unsolved s flags (eliminated s (known_in s flags)).roles) (ap₂ (left_from s) begun is_parity) (parity_left two)
+    located_left two =
+        subst⁻¹ (Unsolved s flags (eliminated s (known_in s flags)).roles) (ap₂ (left_from s) begun is_parity) (parity_left two)
