@@ -5,7 +5,7 @@ ghost use Rattle.vectors.specs.Weighted.{weighted_of};
 ghost use Rattle.code.specs.Settings.{k_of, n_of};
 
 use crate::codewords::Codewords;
-use vectors::weighted;
+use crate::sum_at;
 
 // The table is lent: 2048 bytes that are not copied.
 #[derive(Clone, Copy)]
@@ -21,6 +21,6 @@ impl<'a> Vectors<'a> {
         requires { q < n_of self.now.words.s }
         ensures { result ≡ weighted_of rows.now q self.now.table.now (pairs_of (k_of self.now.words.s)) }
     {
-        weighted(rows, q, self.table, self.words.s.pairs())
+        sum_at(self.words.s, rows, self.table, q)
     }
 }
