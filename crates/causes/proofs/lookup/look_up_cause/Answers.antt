@@ -25,13 +25,10 @@ returns-in_err-loss_cause c =
 
 pub returns-then-out_of_reach : goal.returns-then-out_of_reach
 returns-then-out_of_reach c =
-    let a = c.args in
-    let far = tested a.x.settings a.x.due a.number c.out_of_reach.result c.ranges.number c.out_of_reach.ensures in
-    refused_out_of_reach a.x a.rows.now a.number a.message.now (sym c.loss_cause.ensures ∙ c.in_ok-loss_cause.was)
-    (far ∙ c.if-out_of_reach.true)
+    refused_out_of_reach c.args.x c.args.rows.now c.args.number c.args.message.now (sym c.loss_cause.ensures ∙ c.in_ok-loss_cause.was)
+    (tested _ _ _ _ c.ranges.number c.out_of_reach.ensures ∙ c.if-out_of_reach.true)
 
 pub returns : goal.returns
 returns c =
-    let a = c.args in
-    let far = tested a.x.settings a.x.due a.number c.out_of_reach.result c.ranges.number c.out_of_reach.ensures in
-    look_up_clear a.x a.rows.now a.number a.message.now (sym c.loss_cause.ensures ∙ c.in_ok-loss_cause.was) (far ∙ c.if-out_of_reach.false)
+    look_up_clear c.args.x c.args.rows.now c.args.number c.args.message.now (sym c.loss_cause.ensures ∙ c.in_ok-loss_cause.was)
+    (tested _ _ _ _ c.ranges.number c.out_of_reach.ensures ∙ c.if-out_of_reach.false)

@@ -70,7 +70,10 @@ unfolding out_of_reach
 returns-then-number-lt0 c =
     let both = flagged c.args.number c.ranges.number c.args.due (omega arith) c.effective_delay-delay.result _ (omega arith)
     c.effective_delay-delay.ensures c.if-number-slot.value
-    (elim c.if-number-slot.branch [ then-number-slot w ↦ inl (w.if-number-slot.true, w.value-is) | else-number-slot w ↦ inr (w.if-number-slot.false, w.value-is) ]) in
+    (elim c.if-number-slot.branch [
+      | then-number-slot w ↦ inl (w.if-number-slot.true, w.value-is)
+      | else-number-slot w ↦ inr (w.if-number-slot.false, w.value-is)
+    ]) in
     rw (sym both, c.if-number-lt0.true)
 
 pub returns-else-number-lt0 : goal.returns-else-number-lt0
@@ -78,5 +81,8 @@ unfolding out_of_reach
 returns-else-number-lt0 c =
     let both = flagged c.args.number c.ranges.number c.args.due (omega arith) c.effective_delay-delay.result _ (omega arith)
     c.effective_delay-delay.ensures c.if-number-slot.value
-    (elim c.if-number-slot.branch [ then-number-slot w ↦ inl (w.if-number-slot.true, w.value-is) | else-number-slot w ↦ inr (w.if-number-slot.false, w.value-is) ]) in
+    (elim c.if-number-slot.branch [
+      | then-number-slot w ↦ inl (w.if-number-slot.true, w.value-is)
+      | else-number-slot w ↦ inr (w.if-number-slot.false, w.value-is)
+    ]) in
     rw (sym both, c.if-number-lt0.false, third c.args.number c.ranges.number c.args.due (omega arith))

@@ -1,9 +1,7 @@
 -- Each way out is one entry of the opening's table.
 use borrow.Author.Tests.{eq-eqb, ne_eqb}
-use mathlib.Core.Path.{◌≡◌, sym, ◌∙◌}
-use mathlib.Core.Bool.{true}
+use mathlib.Core.Path.{sym, ◌∙◌}
 use lib.ListN.{length}
-use Rattle.code.specs.Settings.{accepted}
 use Rattle.protocol.specs.Causes.{open_cause}
 use Rattle.causes.proofs.opening.open_cause.Goals as goal
 
@@ -15,11 +13,9 @@ returns-then-not-accepted c =
 pub returns-then-rows-size : goal.returns-then-rows-size
 unfolding open_cause
 returns-then-rows-size c =
-    let settled : accepted c.args.s ≡ true = sym c.accepted.ensures ∙ c.if-not-accepted.false in
-    rw (settled, ne_eqb (length c.args.rows.now) c.args.size c.if-rows-size.true)
+    rw (sym c.accepted.ensures ∙ c.if-not-accepted.false, ne_eqb (length c.args.rows.now) c.args.size c.if-rows-size.true)
 
 pub returns : goal.returns
 unfolding open_cause
 returns c =
-    let settled : accepted c.args.s ≡ true = sym c.accepted.ensures ∙ c.if-not-accepted.false in
-    rw (settled, eq-eqb (length c.args.rows.now) c.args.size c.if-rows-size.false)
+    rw (sym c.accepted.ensures ∙ c.if-not-accepted.false, eq-eqb (length c.args.rows.now) c.args.size c.if-rows-size.false)

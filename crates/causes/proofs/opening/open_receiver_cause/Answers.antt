@@ -16,9 +16,8 @@ use Rattle.protocol.proofs.CauseTables.{followed_by, one_below}
 use Rattle.causes.proofs.opening.open_receiver_cause.Goals as goal
 
 -- the table, once the opening's part has been looked through
-found : (s : Settings) (slot : ℕ) (rows : List ℕ) (size : ℕ) (was a : Answer) → size ≡ receiver_len s → was ≡ open_cause s size rows → was
-    ≡ a
-    → open_receiver_cause s slot rows ≡ followed_by a (check (ltb last_slot slot) LateOpening (Ok tt))
+found : (s : Settings) (slot : ℕ) (rows : List ℕ) (size : ℕ) (was a : Answer) → size ≡ receiver_len s → was ≡ open_cause s size rows
+    → was ≡ a → open_receiver_cause s slot rows ≡ followed_by a (check (ltb last_slot slot) LateOpening (Ok tt))
 unfolding open_cause open_receiver_cause
 found s slot rows size was a is is-was e =
     let late : Bool = ltb last_slot slot in
