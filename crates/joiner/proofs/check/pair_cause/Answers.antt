@@ -7,8 +7,11 @@ use Rattle.std.specs.Prelude.{Ok, Err}
 use Rattle.std.proofs.lemmas.Result.{err_from_is_err_and}
 use Rattle.protocol.proofs.LookUps.{neither}
 use Rattle.code.specs.declared.settings.Settings.{Settings}
+use Rattle.code.specs.Settings.{accepted}
+use Rattle.aerials.specs.declared.PairCause.{PairCause}
 use Rattle.aerials.specs.declared.PairCause.TheVariants.{Unlike}
-use Rattle.aerials.specs.Causes.{Check, check_number}
+use Rattle.aerials.specs.Causes.{Check, check_number, refused_if}
+use Rattle.aerials.specs.Sound.{Rising}
 use Rattle.aerials.specs.Pair.{unfit, other_mark, other_settings, falling, unlike, pair_cause, pair_check}
 use Rattle.aerials.proofs.CheckLaws.{check_numbered}
 use Rattle.aerials.proofs.PairLaws.{rising}
@@ -30,11 +33,38 @@ or_other a b e f = rw (e, f)
 both : (a b : Bool) → a ≡ false → b ≡ false → a || b ≡ false
 both a b e f = rw (e, f)
 
-met_by : (s : Settings) (x y : List ℕ) (a b : Faults) (r : Check)
-    → r ≡ frames_met (a.mark || b.mark) (a.settings || b.settings) (a.falling || b.falling)
-    → a.mark ≡ other_mark s x → b.mark ≡ other_mark s y
-    → a.settings ≡ other_settings s x → b.settings ≡ other_settings s y → a.falling ≡ falling s x → b.falling ≡ falling s y → r ≡ met s x y
-met_by s x y a b r is p q u v w z = rw (← p, ← q, ← u, ← v, ← w, ← z) is
+-- Behind the tests of the settings and of the lengths: what the frames meet, which is r, and what follows where they meet nothing.
+module _ (s : Settings) (x y : List ℕ) (took p q : Bool) (a b : Faults) (r : Check)
+    (took_is : took ≡ accepted s) (p_is : p ≡ unfit s x) (q_is : q ≡ unfit s y)
+    (takes : took ≡ true) (short : p ≡ false) (brief : q ≡ false)
+    (r_is : r ≡ frames_met (a.mark || b.mark) (a.settings || b.settings) (a.falling || b.falling))
+    (marks : a.mark ≡ other_mark s x) (marks-2 : b.mark ≡ other_mark s y)
+    (sets : a.settings ≡ other_settings s x) (sets-2 : b.settings ≡ other_settings s y)
+    (falls : a.falling ≡ falling s x) (falls-2 : b.falling ≡ falling s y) where
+  settled : accepted s ≡ true
+  settled = sym took_is ∙ takes
+
+  fit : unfit s x || unfit s y ≡ false
+  fit = both _ _ (sym p_is ∙ short) (sym q_is ∙ brief)
+
+  found : r ≡ met s x y
+  found = rw (← marks, ← marks-2, ← sets, ← sets-2, ← falls, ← falls-2) r_is
+
+  stopped : (cause : PairCause) → r ≡ Err cause → Err cause ≡ pair_check s x y
+  stopped cause e = by_frames s x y settled fit cause (sym found ∙ e)
+
+  module _ (none : r ≡ Ok tt) where
+    slots : (falling s x ≡ false) × (falling s y ≡ false)
+    slots = neither (falling s x) (falling s y) (clear s x y settled fit (sym found ∙ none)).2
+
+    one_rises : Rising s x
+    one_rises = rising s x slots.0
+
+    two_rises : Rising s y
+    two_rises = rising s y slots.1
+
+    compared : (differ e : Bool) → differ ≡ unlike s x y → differ ≡ e → refused_if e Unlike (Ok tt) ≡ pair_check s x y
+    compared differ e seen is = by_overlap s x y settled fit (sym found ∙ none) e (sym seen ∙ is)
 
 pub returns-then-not-accepted : goal.returns-then-not-accepted
 returns-then-not-accepted c =
@@ -57,78 +87,46 @@ returns-then-unfit c =
 
 pub returns-in_err-frames_met : goal.returns-in_err-frames_met
 returns-in_err-frames_met c =
-    let s : Settings = c.args.s in
-    let x : List ℕ = c.args.first.now in
-    let y : List ℕ = c.args.second.now in
-    let settled = sym c.accepted.ensures ∙ c.if-not-accepted.false in
-    let fit = both _ _ (sym c.unfit.ensures ∙ c.if-unfit.false) (sym c.unfit-else-unfit.ensures ∙ c.if-unfit-2.false) in
     let a = c.faults.ensures in
     let b = c.faults-2.ensures in
-    let found : c.frames_met.result ≡ met s x y =
-    met_by s x y _ _ _ c.frames_met.ensures a.mark b.mark a.settings b.settings a.falling b.falling in
     let p = err_from_is_err_and c.from_residual.result c.from_residual.ensures.1 in
-    let is : c.from_residual.result ≡ pair_check s x y =
-    p.1 ∙ ap Err p.2 ∙ by_frames s x y settled fit c.in_err-frames_met.field-0.0 (sym found ∙ c.in_err-frames_met.was) in
-    record { cause = is; number = numbered s x y _ is }
+    let is = p.1 ∙ ap Err p.2 ∙ stopped _ _ _ _ _ _ _ _ _ c.accepted.ensures c.unfit.ensures c.unfit-else-unfit.ensures
+    c.if-not-accepted.false c.if-unfit.false c.if-unfit-2.false c.frames_met.ensures a.mark b.mark a.settings b.settings
+    a.falling b.falling _ c.in_err-frames_met.was in
+    record { cause = is; number = numbered _ _ _ _ is }
 
 pub new-requires : goal.new-requires
 new-requires c =
-    let s : Settings = c.args.s in
-    let x : List ℕ = c.args.first.now in
-    let y : List ℕ = c.args.second.now in
-    let settled = sym c.accepted.ensures ∙ c.if-not-accepted.false in
-    let fit = both _ _ (sym c.unfit.ensures ∙ c.if-unfit.false) (sym c.unfit-else-unfit.ensures ∙ c.if-unfit-2.false) in
     let a = c.faults.ensures in
     let b = c.faults-2.ensures in
-    let found : c.frames_met.result ≡ met s x y =
-    met_by s x y _ _ _ c.frames_met.ensures a.mark b.mark a.settings b.settings a.falling b.falling in
-    let none : met s x y ≡ Ok tt = sym found ∙ c.in_ok-frames_met.was in
-    rising s x (neither (falling s x) (falling s y) (clear s x y settled fit none).2).0
+    one_rises _ _ _ _ _ _ _ _ _ c.accepted.ensures c.unfit.ensures c.unfit-else-unfit.ensures
+    c.if-not-accepted.false c.if-unfit.false c.if-unfit-2.false c.frames_met.ensures a.mark b.mark a.settings b.settings
+    a.falling b.falling c.in_ok-frames_met.was
 
 pub new-requires-2 : goal.new-requires-2
 new-requires-2 c =
-    let s : Settings = c.args.s in
-    let x : List ℕ = c.args.first.now in
-    let y : List ℕ = c.args.second.now in
-    let settled = sym c.accepted.ensures ∙ c.if-not-accepted.false in
-    let fit = both _ _ (sym c.unfit.ensures ∙ c.if-unfit.false) (sym c.unfit-else-unfit.ensures ∙ c.if-unfit-2.false) in
     let a = c.faults.ensures in
     let b = c.faults-2.ensures in
-    let found : c.frames_met.result ≡ met s x y =
-    met_by s x y _ _ _ c.frames_met.ensures a.mark b.mark a.settings b.settings a.falling b.falling in
-    let none : met s x y ≡ Ok tt = sym found ∙ c.in_ok-frames_met.was in
-    rising s y (neither (falling s x) (falling s y) (clear s x y settled fit none).2).1
+    two_rises _ _ _ _ _ _ _ _ _ c.accepted.ensures c.unfit.ensures c.unfit-else-unfit.ensures
+    c.if-not-accepted.false c.if-unfit.false c.if-unfit-2.false c.frames_met.ensures a.mark b.mark a.settings b.settings
+    a.falling b.falling c.in_ok-frames_met.was
 
 pub returns-then-unlike : goal.returns-then-unlike
 returns-then-unlike c =
-    let s : Settings = c.args.s in
-    let x : List ℕ = c.args.first.now in
-    let y : List ℕ = c.args.second.now in
-    let settled = sym c.accepted.ensures ∙ c.if-not-accepted.false in
-    let fit = both _ _ (sym c.unfit.ensures ∙ c.if-unfit.false) (sym c.unfit-else-unfit.ensures ∙ c.if-unfit-2.false) in
     let a = c.faults.ensures in
     let b = c.faults-2.ensures in
-    let found : c.frames_met.result ≡ met s x y =
-    met_by s x y _ _ _ c.frames_met.ensures a.mark b.mark a.settings b.settings a.falling b.falling in
-    let none : met s x y ≡ Ok tt = sym found ∙ c.in_ok-frames_met.was in
-    let seen : c.unlike.result ≡ unlike s x y =
-    rw (c.new.ensures.settings, c.new.ensures.bytes, c.new-2.ensures.bytes) at c.unlike.ensures in
-    let is : Err Unlike ≡ pair_check s x y = by_overlap s x y settled fit none true (sym seen ∙ c.if-unlike.true) in
-    record { cause = is; number = numbered s x y _ is }
+    let is = compared _ _ _ _ _ _ _ _ _ c.accepted.ensures c.unfit.ensures c.unfit-else-unfit.ensures
+    c.if-not-accepted.false c.if-unfit.false c.if-unfit-2.false c.frames_met.ensures a.mark b.mark a.settings b.settings
+    a.falling b.falling c.in_ok-frames_met.was
+    _ true (rw (c.new.ensures.settings, c.new.ensures.bytes, c.new-2.ensures.bytes) at c.unlike.ensures) c.if-unlike.true in
+    record { cause = is; number = numbered _ _ _ _ is }
 
 pub returns : goal.returns
 returns c =
-    let s : Settings = c.args.s in
-    let x : List ℕ = c.args.first.now in
-    let y : List ℕ = c.args.second.now in
-    let settled = sym c.accepted.ensures ∙ c.if-not-accepted.false in
-    let fit = both _ _ (sym c.unfit.ensures ∙ c.if-unfit.false) (sym c.unfit-else-unfit.ensures ∙ c.if-unfit-2.false) in
     let a = c.faults.ensures in
     let b = c.faults-2.ensures in
-    let found : c.frames_met.result ≡ met s x y =
-    met_by s x y _ _ _ c.frames_met.ensures a.mark b.mark a.settings b.settings a.falling b.falling in
-    let none : met s x y ≡ Ok tt = sym found ∙ c.in_ok-frames_met.was in
-    let seen : c.unlike.result ≡ unlike s x y =
-    rw (c.new.ensures.settings, c.new.ensures.bytes, c.new-2.ensures.bytes) at c.unlike.ensures in
-    let is : Ok tt ≡ pair_check s x y = by_overlap s x y settled fit none false (sym seen ∙ c.if-unlike.false) in
-    record { cause = is; number = numbered s x y _ is }
+    let is = compared _ _ _ _ _ _ _ _ _ c.accepted.ensures c.unfit.ensures c.unfit-else-unfit.ensures
+    c.if-not-accepted.false c.if-unfit.false c.if-unfit-2.false c.frames_met.ensures a.mark b.mark a.settings b.settings
+    a.falling b.falling c.in_ok-frames_met.was
+    _ false (rw (c.new.ensures.settings, c.new.ensures.bytes, c.new-2.ensures.bytes) at c.unlike.ensures) c.if-unlike.false in
+    record { cause = is; number = numbered _ _ _ _ is }
