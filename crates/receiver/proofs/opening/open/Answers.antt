@@ -28,7 +28,7 @@ returns c =
     ap₂ opening
     (c.write_opened.ensures
     ∙ ap₂ (λ (n m : ℕ). table n (opened_byte m c.args.slot))
-    (receiver_open c.args.s c.args.slot c.args.rows.now (uncaused)).exact c.row_len.ensures
+    (receiver_open c.args.s c.args.slot c.args.rows.now uncaused).exact c.row_len.ensures
     ∙ opened_rows_lem c.args.s c.args.slot)
     c.opened_receiver.ensures
-    ∙ opened c.args.s c.args.slot c.args.rows.now (uncaused)
+    ∙ opened c.args.s c.args.slot c.args.rows.now uncaused
