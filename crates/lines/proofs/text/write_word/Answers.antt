@@ -33,7 +33,8 @@ module _ (n at : ℕ) (line part : List ℕ) (is_at : at ≡ 0 + length (decimal
 
     both_written : (at + length word ≡ length (decimal n ++ word)) × (whole ≡ written (decimal n ++ word) line)
     both_written =
-        (joined_end (decimal n) word line at part whole ended begun is_whole, joined (decimal n) word line at part whole ended begun is_whole)
+        let text : List ℕ = decimal n in
+        (joined_end text word line at part whole ended begun is_whole, joined text word line at part whole ended begun is_whole)
 
 pub write_decimal-at-requires : goal.write_decimal-at-requires
 write_decimal-at-requires c =
