@@ -66,7 +66,7 @@ module _ (s : Settings) (first second : List ℕ) (ok : pair_cause s first secon
 pub pair_faithful_demand3 : PairFaithfulDemand3
 unfolding PairFaithfulDemand3 Demand3
 pair_faithful_demand3 s first second ok opening in_time_lem sender_rows receiver_rows sends-exact reports-exact send_calls bytes messages
-own =
+    own =
     let a : OpenedSender = open_sender_of s sender_rows in
     let b : OpenedReceiver = open_receiver_of s opening receiver_rows in
     let sent : List SendMade = sends a.sender a.rows send_calls in

@@ -301,7 +301,7 @@ alone (c ∷ cs) due state rows =
 -- ---- after the openings
 
 module _ (settings : List ℕ) (ok : T (accepted (settings_of settings))) (state : List ℕ) (room : length state ≡ state_len) (rows : List ℕ)
-where
+    where
   abbrev settled : Settings
   settled = settings_of settings
 

@@ -121,7 +121,7 @@ module _ (s : Settings) (opening : ℕ) {sends₁ : List SendMade} {sends₂ : L
 pub demand3_bytes : Demand3Bytes
 unfolding Demand3Bytes Demand3
 demand3_bytes settings ok opening in_time_lem sender_state sender_rows receiver_state receiver_rows sender-room sender-full receiver-room
-receiver-full
+    receiver-full
     send_calls bytes report_calls =
     let s : Settings = settings_of settings in
     let opens : OpensAt s opening receiver_rows = record { settings = ok; exact = receiver-full; in_time_lem = in_time_lem } in

@@ -144,7 +144,7 @@ refuses reply refusal r says rs by stays = record {
 
 pub demand1_bytes : Demand1Bytes
 unfolding open_bytes_cause open_receiver_bytes_cause send_bytes_cause heard_bytes_cause lost_bytes_cause look_up_bytes_cause
-slot_due_bytes due_read_cause frame_slot_bytes slot_read_cause
+    slot_due_bytes due_read_cause frame_slot_bytes slot_read_cause
 demand1_bytes = record {
   open_sender = λ settings state rows.
       let s : Settings = settings_of settings in

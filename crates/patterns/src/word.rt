@@ -47,6 +47,7 @@ fn changed(mut word: [u8; 16], random: &mut Random, n: usize) -> [u8; 16]
     word
 }
 
+// The bytes of pattern j, of six: its kind goes by j, as reference/PATTERNS.md draws it.
 #[tactic(auto, unfolding(code::specs::Settings::n_of, code::specs::Settings::k_of))]
 pub(crate) fn arrived(s: Settings, j: u8, random: &mut Random) -> [u8; 16]
     requires { n_of s ≤ 16 }

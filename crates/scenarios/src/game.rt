@@ -10,7 +10,7 @@ use protocol::{Receiver, Sender};
 use std::io::Write;
 
 // The settings, both ends and their buffers; how many losses of a burst are left over, and whether rows are drawn behind the receiver's
-// back.
+// back, which is so of one kind of scenario, whatever else it is.
 #[derive(Drop)]
 pub(crate) struct Game {
     pub(crate) settings: Settings,
