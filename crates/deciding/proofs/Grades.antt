@@ -49,10 +49,10 @@ both_grades false false false l₂ = refl
 -- it is whole only where both are
 pub worse_whole : (a b : Grade) → worse a b ≡ grade.Whole → (a ≡ grade.Whole) × (b ≡ grade.Whole)
 worse_whole grade.Whole b e = (refl, e)
-worse_whole grade.Lost grade.Whole e = absurd (cc)
-worse_whole grade.Lost grade.Lost e = absurd (cc)
-worse_whole grade.Lost grade.Clash e = absurd (cc)
-worse_whole grade.Clash b e = absurd (cc)
+worse_whole grade.Lost grade.Whole e = absurd cc
+worse_whole grade.Lost grade.Lost e = absurd cc
+worse_whole grade.Lost grade.Clash e = absurd cc
+worse_whole grade.Clash b e = absurd cc
 
 pub symbols_more : (s : Settings) (rows : List ℕ) (due t i : ℕ)
     → worse (symbols_grade s rows due t i) (lanes_grade s rows due t i) ≡ symbols_grade s rows due t (i + 1)
