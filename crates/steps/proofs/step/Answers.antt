@@ -3,7 +3,7 @@ use mathlib.Core.Path.{◌≡◌, sym, ap, ◌∙◌}
 use mathlib.Core.List.{List}
 use native.Mathlib.Omega.{arith}
 use Prim.Native.Nat.{ℕ, ◌+◌, ◌-◌, ◌≤◌, ◌<◌}
-use lib.ListN.{length, drop, length-take, length-drop}
+use lib.ListN.{length, take, drop, length-take, length-drop}
 use Rattle.protocol.specs.Lengths.{frame_len}
 use Rattle.protocol.specs.declared.Cause.TheVariants.{BadLength}
 use Rattle.recording.specs.declared.Found.{Found}
@@ -29,46 +29,39 @@ module _ (recording : List ℕ) (p : Player) (r : Found) (size : ℕ) (found : r
   framed start end is =
       frame_says recording p.offset (frame_len p.receiver.settings) start end (stands_there (Frame start end) is)
 
+  -- and has the bytes of a header
+  headed : (start end : ℕ) → r ≡ Frame start end → 14 ≤ length (take (end - start) (drop start recording))
+  unfolding frame_len
+  headed start end is =
+      omega (arith, framed start end is, length-take (end - start) (drop start recording), length-drop start recording)
+
 pub stopped-requires : goal.stopped-requires
 stopped-requires c =
     omega (arith, c.requires)
 
 pub slice_bounds-at_frame-start : goal.slice_bounds-at_frame-start
 slice_bounds-at_frame-start c =
-    let f = c.in-Frame in
-    omega (arith, framed c.args.recording.now c.args.p _ _ c.next_frame.ensures c.frame_len.ensures f.start f.end f.is)
+    omega (arith, framed _ c.args.p _ _ c.next_frame.ensures c.frame_len.ensures _ _ c.in-Frame.is)
 
 pub slice_bounds-at_frame-count : goal.slice_bounds-at_frame-count
 slice_bounds-at_frame-count c =
-    let f = c.in-Frame in
-    omega (arith, framed c.args.recording.now c.args.p _ _ c.next_frame.ensures c.frame_len.ensures f.start f.end f.is)
+    omega (arith, framed _ c.args.p _ _ c.next_frame.ensures c.frame_len.ensures _ _ c.in-Frame.is)
 
 pub slice_bounds-at_frame-end : goal.slice_bounds-at_frame-end
 slice_bounds-at_frame-end c =
-    let f = c.in-Frame in
-    omega (arith, framed c.args.recording.now c.args.p _ _ c.next_frame.ensures c.frame_len.ensures f.start f.end f.is)
+    omega (arith, framed _ c.args.p _ _ c.next_frame.ensures c.frame_len.ensures _ _ c.in-Frame.is)
 
 pub at_frame-requires : goal.at_frame-requires
-unfolding frame_len
 at_frame-requires c =
     let f = c.in-Frame in
-    let recording = c.args.recording.now in (
-      omega (
-        arith,
-        framed recording c.args.p _ _ c.next_frame.ensures c.frame_len.ensures f.start f.end f.is,
-        length-take (f.end - f.start) (drop f.start recording),
-        length-drop f.start recording,
-      ),
-      c.requires,
-    )
+    (headed _ c.args.p _ _ c.next_frame.ensures c.frame_len.ensures f.start f.end f.is, c.requires)
 
 pub returns-in-End : goal.returns-in-End
 returns-in-End c =
     let a = c.args in
     end_line a.line.now a.p a.rows.now a.message.now
     ∙ ap (printed_on a.line.now)
-    (ends a.p a.recording.now a.rows.now a.message.now
-    (stands_there a.recording.now a.p _ _ c.next_frame.ensures c.frame_len.ensures _ c.in-End.is))
+    (ends a.p _ a.rows.now a.message.now (stands_there _ a.p _ _ c.next_frame.ensures c.frame_len.ensures _ c.in-End.is))
 
 pub returns-in-Part : goal.returns-in-Part
 returns-in-Part c =
@@ -76,8 +69,7 @@ returns-in-Part c =
     let f = c.stopped.ensures in
     stop_line_lem a.line.now _ _ _ _ a.p a.rows.now a.message.now BadLength f.player f.len f.over f.line
     ∙ ap (printed_on a.line.now)
-    (parts a.p a.recording.now a.rows.now a.message.now
-    (stands_there a.recording.now a.p _ _ c.next_frame.ensures c.frame_len.ensures _ c.in-Part.is))
+    (parts a.p _ a.rows.now a.message.now (stands_there _ a.p _ _ c.next_frame.ensures c.frame_len.ensures _ c.in-Part.is))
 
 pub returns-in-Frame : goal.returns-in-Frame
 returns-in-Frame c =
@@ -85,5 +77,4 @@ returns-in-Frame c =
     let f = c.in-Frame in
     c.at_frame.ensures
     ∙ ap (printed_on a.line.now)
-    (stands a.p a.recording.now a.rows.now a.message.now f.start f.end
-    (stands_there a.recording.now a.p _ _ c.next_frame.ensures c.frame_len.ensures _ f.is))
+    (stands a.p _ a.rows.now a.message.now f.start f.end (stands_there _ a.p _ _ c.next_frame.ensures c.frame_len.ensures _ f.is))
