@@ -1,8 +1,7 @@
 -- The end, or a step at the part that is lent.
-use mathlib.Core.Path.{◌≡◌, sym, ap, ◌∙◌}
+use mathlib.Core.Path.{sym, ap, ◌∙◌}
 use mathlib.Core.List.{List}
 use Prim.Native.Nat.{ℕ}
-use Rattle.aerials.specs.Next.{next_of}
 use Rattle.reporting.specs.Acts.{frame_act}
 use Rattle.reporting.specs.Outcomes.{printed_on}
 use Rattle.steps.proofs.StepOutcomes.{end_line}
@@ -13,33 +12,20 @@ use Rattle.pairs.proofs.stepping.step.Goals as goal
 
 pub at_frame-requires : goal.at_frame-requires
 at_frame-requires c =
-    let found : c.next_slot.result ≡ next_of c.args.p.receiver.settings c.args.first.now c.args.second.now c.args.p.receiver.due =
-    c.next_slot.ensures in (
-      rw c.part-frame.ensures.bytes
-          (lent_long c.args.p.receiver.settings c.args.first.now c.args.second.now c.requires.0 c.args.p.receiver.due _
-          (sym (found) ∙ c.in-Some.is)),
-      c.requires.1,
-    )
+    let long = lent_long _ _ _ c.requires.0 _ _ (sym c.next_slot.ensures ∙ c.in-Some.is) in
+    (rw c.part-frame.ensures.bytes long, c.requires.1)
 
 pub returns-in-None : goal.returns-in-None
 unfolding pair_step_of
 returns-in-None c =
-    let found : c.next_slot.result ≡ next_of c.args.p.receiver.settings c.args.first.now c.args.second.now c.args.p.receiver.due =
-    c.next_slot.ensures in
-    end_line c.args.line.now c.args.p c.args.rows.now c.args.message.now
-    ∙ ap (printed_on c.args.line.now)
-    (sym (pair_end c.args.p c.args.first.now c.args.second.now c.args.rows.now c.args.message.now (sym (found) ∙ c.in-None.is)))
+    let a = c.args in
+    end_line a.line.now a.p a.rows.now a.message.now
+    ∙ ap (printed_on a.line.now) (sym (pair_end a.p _ _ a.rows.now a.message.now (sym c.next_slot.ensures ∙ c.in-None.is)))
 
 pub returns-in-Some : goal.returns-in-Some
 unfolding pair_step_of
 returns-in-Some c =
-    let found : c.next_slot.result ≡ next_of c.args.p.receiver.settings c.args.first.now c.args.second.now c.args.p.receiver.due =
-    c.next_slot.ensures in
+    let a = c.args in
     c.at_frame.ensures
-    ∙ ap
-    (λ (frame : List ℕ). printed_on c.args.line.now (frame_act c.args.p frame c.args.p.offset c.args.rows.now c.args.message.now))
-    c.part-frame.ensures.bytes
-    ∙ ap (printed_on c.args.line.now)
-    (sym
-    (pair_frame c.args.p c.args.first.now c.args.second.now c.args.rows.now c.args.message.now _
-    (sym (found) ∙ c.in-Some.is)))
+    ∙ ap (λ (frame : List ℕ). printed_on a.line.now (frame_act a.p frame a.p.offset a.rows.now a.message.now)) c.part-frame.ensures.bytes
+    ∙ ap (printed_on a.line.now) (sym (pair_frame a.p _ _ a.rows.now a.message.now _ (sym c.next_slot.ensures ∙ c.in-Some.is)))
