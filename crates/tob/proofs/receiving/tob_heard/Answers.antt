@@ -1,17 +1,15 @@
 -- A cause that the state gives refuses the report; else it is protocol's.
-use Rattle.std.specs.Prelude.{Ok}
-use mathlib.Core.Path.{◌≡◌, sym, ap, ap₂, ◌∙◌}
+use mathlib.Core.Path.{sym, ap, ap₂, ◌∙◌}
 use mathlib.Core.List.{List}
 use native.Mathlib.Omega.{arith}
 use Prim.Native.Nat.{ℕ}
-use lib.ListN.{length}
 use Rattle.protocol.specs.declared.Receiver.{Receiver}
 use Rattle.protocol.specs.Histories.{accepts}
 use Rattle.protocol.specs.Calls.{heard_of}
-use Rattle.state.specs.State.{receiver_end, state_len, saved, state_cause}
-use Rattle.state.proofs.KeptStates.{uncaused_length}
+use Rattle.state.specs.State.{receiver_end, saved}
 use Rattle.library.specs.Calls.{Reporting}
 use Rattle.library.proofs.Outcomes.{report_left, heard_caused, heard_uncaused}
+use Rattle.tob.proofs.Passed.{state_sized}
 use Rattle.tob.proofs.receiving.tob_heard.Goals as goal
 
 abbrev outcome : List ℕ → List ℕ → ℕ → List ℕ → Reporting
@@ -24,23 +22,18 @@ returns-in-Err c =
 
 pub receiver_in-requires : goal.receiver_in-requires
 receiver_in-requires c =
-    let uncaused : state_cause receiver_end c.args.state.now ≡ Ok tt = sym c.state_cause.ensures ∙ c.in_default.is in
-    let sized : length c.args.state.now ≡ state_len = uncaused_length receiver_end c.args.state.now (uncaused) in
-    omega (arith, sized)
+    omega (arith, state_sized receiver_end _ _ c.state_cause.ensures c.in_default.is)
 
 pub save_reply-requires : goal.save_reply-requires
 save_reply-requires c =
-    let uncaused : state_cause receiver_end c.args.state.now ≡ Ok tt = sym c.state_cause.ensures ∙ c.in_default.is in
-    let sized : length c.args.state.now ≡ state_len = uncaused_length receiver_end c.args.state.now (uncaused) in
-    sized
+    state_sized receiver_end _ _ c.state_cause.ensures c.in_default.is
 
 pub returns : goal.returns
 returns c =
-    let uncaused : state_cause receiver_end c.args.state.now ≡ Ok tt = sym c.state_cause.ensures ∙ c.in_default.is in
     ap₂ (outcome _ _) c.save_reply.ensures.number
     (c.save_reply.ensures.state
     ∙ ap (λ (bytes : List ℕ). saved (accepts c.heard-r.result.answer) bytes c.args.state.now) c.receiver_bytes.ensures)
     ∙ ap (report_left c.args.state.now)
     (c.heard-r.ensures
     ∙ ap (λ (x : Receiver). heard_of x c.args.rows.now c.args.frame.now c.args.message.now) c.receiver_in.ensures)
-    ∙ heard_uncaused c.args.state.now c.args.rows.now c.args.message.now c.args.frame.now (uncaused)
+    ∙ heard_uncaused c.args.state.now c.args.rows.now c.args.message.now c.args.frame.now (sym c.state_cause.ensures ∙ c.in_default.is)

@@ -1,19 +1,17 @@
 -- A cause that the state gives refuses the look_up; else it is protocol's, and its number is the reply.
-use Rattle.std.specs.Prelude.{Ok}
-use mathlib.Core.Path.{◌≡◌, sym, ap, ap₂, ◌∙◌}
+use mathlib.Core.Path.{sym, ap, ap₂, ◌∙◌}
 use mathlib.Core.List.{List}
 use native.Mathlib.Omega.{arith}
 use Prim.Native.Nat.{ℕ}
 use lib.IntN.{ℤ}
-use lib.ListN.{length}
 use mir.Syntax.{w64}
 use mir.ValLaws.{to_z-of_z}
 use Rattle.protocol.specs.declared.Receiver.{Receiver}
 use Rattle.protocol.specs.Calls.{look_up_of}
-use Rattle.state.specs.State.{receiver_end, state_len, state_cause}
-use Rattle.state.proofs.KeptStates.{uncaused_length}
+use Rattle.state.specs.State.{receiver_end}
 use Rattle.library.specs.Calls.{Looking, looked_bytes}
 use Rattle.library.proofs.Outcomes.{look_up_caused, look_up_uncaused}
+use Rattle.tob.proofs.Passed.{state_sized}
 use Rattle.tob.proofs.receiving.tob_look_up.Goals as goal
 
 abbrev outcome : List ℕ → ℕ → Looking
@@ -27,16 +25,13 @@ returns-in-Err c =
 
 pub receiver_in-requires : goal.receiver_in-requires
 receiver_in-requires c =
-    let uncaused : state_cause receiver_end c.args.state.now ≡ Ok tt = sym c.state_cause.ensures ∙ c.in_default.is in
-    let sized : length c.args.state.now ≡ state_len = uncaused_length receiver_end c.args.state.now (uncaused) in
-    omega (arith, sized)
+    omega (arith, state_sized receiver_end _ _ c.state_cause.ensures c.in_default.is)
 
 pub returns : goal.returns
 returns c =
-    let uncaused : state_cause receiver_end c.args.state.now ≡ Ok tt = sym c.state_cause.ensures ∙ c.in_default.is in
     ap (outcome _) c.reply_number.ensures
     ∙ ap looked_bytes
     (c.look_up.ensures
     ∙ ap₂ (λ (x : Receiver) (z : ℤ). look_up_of x c.args.rows.now z c.args.message.now) c.receiver_in.ensures
     (to_z-of_z w64 c.args.number c.ranges.number))
-    ∙ look_up_uncaused c.args.state.now c.args.rows.now c.args.message.now c.args.number (uncaused)
+    ∙ look_up_uncaused c.args.state.now c.args.rows.now c.args.message.now c.args.number (sym c.state_cause.ensures ∙ c.in_default.is)

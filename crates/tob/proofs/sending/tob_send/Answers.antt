@@ -1,17 +1,15 @@
 -- A cause that the state gives refuses the send; else it is protocol's.
-use Rattle.std.specs.Prelude.{Ok}
-use mathlib.Core.Path.{◌≡◌, sym, ap, ap₂, ◌∙◌}
+use mathlib.Core.Path.{sym, ap, ap₂, ◌∙◌}
 use mathlib.Core.List.{List}
 use native.Mathlib.Omega.{arith}
 use Prim.Native.Nat.{ℕ}
-use lib.ListN.{length}
 use Rattle.protocol.specs.declared.Sender.{Sender}
 use Rattle.protocol.specs.Calls.{send_of}
-use Rattle.state.specs.State.{sender_end, state_len, saved, state_cause}
+use Rattle.state.specs.State.{sender_end, saved}
 use Rattle.protocol.specs.Histories.{is_accepted}
-use Rattle.state.proofs.KeptStates.{uncaused_length}
 use Rattle.library.specs.Calls.{Sending}
 use Rattle.library.proofs.Outcomes.{send_left, send_caused, send_uncaused}
+use Rattle.tob.proofs.Passed.{state_sized}
 use Rattle.tob.proofs.sending.tob_send.Goals as goal
 
 abbrev outcome : List ℕ → List ℕ → ℕ → List ℕ → Sending
@@ -24,23 +22,18 @@ returns-in-Err c =
 
 pub sender_in-requires : goal.sender_in-requires
 sender_in-requires c =
-    let uncaused : state_cause sender_end c.args.state.now ≡ Ok tt = sym c.state_cause.ensures ∙ c.in_default.is in
-    let sized : length c.args.state.now ≡ state_len = uncaused_length sender_end c.args.state.now (uncaused) in
-    omega (arith, sized)
+    omega (arith, state_sized sender_end _ _ c.state_cause.ensures c.in_default.is)
 
 pub save_answer-requires : goal.save_answer-requires
 save_answer-requires c =
-    let uncaused : state_cause sender_end c.args.state.now ≡ Ok tt = sym c.state_cause.ensures ∙ c.in_default.is in
-    let sized : length c.args.state.now ≡ state_len = uncaused_length sender_end c.args.state.now (uncaused) in
-    sized
+    state_sized sender_end _ _ c.state_cause.ensures c.in_default.is
 
 pub returns : goal.returns
 returns c =
-    let uncaused : state_cause sender_end c.args.state.now ≡ Ok tt = sym c.state_cause.ensures ∙ c.in_default.is in
     ap₂ (outcome _ _) c.save_answer.ensures.number
     (c.save_answer.ensures.state
     ∙ ap (λ (bytes : List ℕ). saved (is_accepted c.send-r.result.answer) bytes c.args.state.now) c.sender_bytes.ensures)
     ∙ ap (send_left c.args.state.now)
     (c.send-r.ensures
     ∙ ap (λ (x : Sender). send_of x c.args.rows.now c.args.message.now c.args.frame.now) c.sender_in.ensures)
-    ∙ send_uncaused c.args.state.now c.args.rows.now c.args.message.now c.args.frame.now (uncaused)
+    ∙ send_uncaused c.args.state.now c.args.rows.now c.args.message.now c.args.frame.now (sym c.state_cause.ensures ∙ c.in_default.is)

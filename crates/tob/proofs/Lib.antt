@@ -1,0 +1,2 @@
+-- What the proofs of several calls cite.
+pub mod Passed
