@@ -42,7 +42,13 @@ pub fn loss_cause(x: Receiver, rows: &[u8], message: &[u8]) -> Result<(), Cause>
 }
 
 // The first cause that holds for the report of a frame of this version, if any.
-pub fn frame_cause(version: u16, x: Receiver, rows: &[u8], frame: &[u8], message: &[u8]) -> Result<(), Cause>
+pub fn frame_cause(
+    version: u16,
+    x: Receiver,
+    rows: &[u8],
+    frame: &[u8],
+    message: &[u8],
+) -> Result<(), Cause>
     ensures { result ≡ frame_cause_of version x rows.now frame.now message.now }
 {
     let s = x.settings;

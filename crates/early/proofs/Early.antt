@@ -111,9 +111,11 @@ module _ (s : Settings) (ok : T (accepted s)) (send_calls : List Send)
 
     -- some word fits each codeword: the true one
     fitting : (i v : ℕ) → i < k_of s → v < s.lanes → (u : ℕ → ℕ) × Fitting s (arrived s rows due t i v) u
-    fitting i v hi hv =
-        (_, truly_fits s (shape s ok) rows due t messages (lost_since d (lost_at told)) (message_byte s send_calls bytes) true_rows i v hi
-        hv)
+    fitting i v hi hv = (
+      _,
+      truly_fits s (shape s ok) rows due t messages (lost_since d (lost_at told)) (message_byte s send_calls bytes) true_rows i v hi
+          hv,
+    )
 
     none_clashes : SomeClash s (arrived s rows due t) → ⊥
     none_clashes some =
@@ -236,7 +238,7 @@ module _ (s : Settings) (ok : T (accepted s)) (send_calls : List Send)
         still_whole t a b ta tb (omega (arith, stand.in_order _ _ later, (point t b tb).onward)) whole;
     as_early = λ t a ta. (
       λ whole. whole_agree s ok send_calls bytes told begun faithful t (point t a ta).left (in_time_lem t a ta)
-      (sym (told_by_lem t a ta).0 ∙ whole),
+          (sym (told_by_lem t a ta).0 ∙ whole),
       λ first sooner agree.
           (told_by_lem t a ta).0
           ∙ agree_whole s ok send_calls bytes told begun faithful t (point t a ta).left (in_time_lem t a ta)

@@ -67,15 +67,26 @@ known_early =
     let told : List ReportMade = reports_in known in
     let here : Memᴰ _ known = mathlib.Core.List.Memᴰ.tail (mathlib.Core.List.Memᴰ.tail (mathlib.Core.List.Memᴰ.head refl)) in
     let was : SentAs (sent_by card (send_calls card 2)) 1 (0x00 ∷ 0x01 ∷ []) frame
-    = record { send = _; listed = mathlib.Core.List.Memᴰ.tail (mathlib.Core.List.Memᴰ.head refl); taken = refl; slot = refl; given = refl;
-    out = refl } in
+    = record {
+      send = _;
+      listed = mathlib.Core.List.Memᴰ.tail (mathlib.Core.List.Memᴰ.head refl);
+      taken = refl;
+      slot = refl;
+      given = refl;
+      out = refl;
+    } in
     let passed = early.demand3.own_frame _ frame buffer (0x00 ∷ 0x01 ∷ [])
     (mathlib.Core.List.Memᴰ.tail (mathlib.Core.List.Memᴰ.head refl)) refl was refl in
     let arrives : Heard told 1 frame
     = record {
       message = buffer;
-      by = record { report = _; listed = mathlib.Core.List.Memᴰ.tail (mathlib.Core.List.Memᴰ.head refl); passed = passed; slot = refl;
-      called = refl };
+      by = record {
+        report = _;
+        listed = mathlib.Core.List.Memᴰ.tail (mathlib.Core.List.Memᴰ.head refl);
+        passed = passed;
+        slot = refl;
+        called = refl;
+      };
     } in
     let telling : Telling card known 1 _
     = record {

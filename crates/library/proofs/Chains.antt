@@ -155,8 +155,11 @@ pub opened_receiver_read : (settings : List ℕ) (slot : ℕ) (state rows : List
 unfolding settings_of
 opened_receiver_read settings slot state rows opens room =
     let s : Settings = settings_at 0 settings in
-    rw (sym (receiver_uncaused settings state rows slot (open_clear s state_len state opens.settings room)), reporting.opened_receiver_lem
-    s slot rows opens)
+    rw (
+      sym (receiver_uncaused settings state rows slot (open_clear s state_len state opens.settings room)),
+      reporting.opened_receiver_lem
+          s slot rows opens,
+    )
     (refl, refl, kept_receiver (opened_receiver s slot) opens.in_time_lem (omega (arith, opens.in_time_lem)))
 
 -- a report by the library: what it leaves, the receiver that the next call reads, and the slot due then
@@ -301,46 +304,46 @@ alone (c ∷ cs) due state rows =
 -- ---- after the openings
 
 module _ (settings : List ℕ) (ok : T (accepted (settings_of settings))) (state : List ℕ) (room : length state ≡ state_len) (rows : List ℕ)
-    where
-  abbrev settled : Settings
-  settled = settings_of settings
+  where
+    abbrev settled : Settings
+    settled = settings_of settings
 
-  -- the sends are protocol's
-  pub sends_opened : length rows ≡ sender_len settled → (cs : List Send)
-      → let b : Opening = open_sender_bytes settings state rows in
-      let r : OpenedSender = open_sender_of settled rows in
-      (b.reply ≡ 0) × Forall₂ SameSend (sends r.sender r.rows cs) (sends_bytes 0 b.state b.rows cs)
-  sends_opened full cs =
-      let b : Opening = open_sender_bytes settings state rows in
-      let x : Sender = (open_sender_of settled rows).sender in
-      let (reply, same, keeps) = opened_sender_read settings state rows ok room full in (
-        reply,
-        subst (λ (l : List ℕ). Forall₂ SameSend (sends x l cs) (sends_bytes 0 b.state b.rows cs)) same
-            (sends_read cs 0 b.state b.rows x keeps
-            (ap (λ (r : OpenedSender). r.sender.due) (sending.opened_sender_lem settled rows ok full))),
-      )
+    -- the sends are protocol's
+    pub sends_opened : length rows ≡ sender_len settled → (cs : List Send)
+        → let b : Opening = open_sender_bytes settings state rows in
+        let r : OpenedSender = open_sender_of settled rows in
+        (b.reply ≡ 0) × Forall₂ SameSend (sends r.sender r.rows cs) (sends_bytes 0 b.state b.rows cs)
+    sends_opened full cs =
+        let b : Opening = open_sender_bytes settings state rows in
+        let x : Sender = (open_sender_of settled rows).sender in
+        let (reply, same, keeps) = opened_sender_read settings state rows ok room full in (
+          reply,
+          subst (λ (l : List ℕ). Forall₂ SameSend (sends x l cs) (sends_bytes 0 b.state b.rows cs)) same
+              (sends_read cs 0 b.state b.rows x keeps
+              (ap (λ (r : OpenedSender). r.sender.due) (sending.opened_sender_lem settled rows ok full))),
+        )
 
-  -- and so are the reports and look-ups
-  pub calls_opened : (slot : ℕ) → OpensAt settled slot rows → (cs : List Call)
-      → let b : Opening = open_receiver_bytes settings slot state rows in
-      let r : OpenedReceiver = open_receiver_of settled slot rows in
-      (b.reply ≡ 0) × SameCalls (calls r.receiver r.rows cs) (calls_bytes slot b.state b.rows cs)
-  calls_opened slot opens cs =
-      let b : Opening = open_receiver_bytes settings slot state rows in
-      let y : Receiver = (open_receiver_of settled slot rows).receiver in
-      let (reply, same, keeps) = opened_receiver_read settings slot state rows opens room in (
-        reply,
-        subst (λ (l : List ℕ). SameCalls (calls y l cs) (calls_bytes slot b.state b.rows cs)) same
-            (calls_read cs slot b.state b.rows y keeps
-            (ap (λ (r : OpenedReceiver). r.receiver.due) (reporting.opened_receiver_lem settled slot rows opens))),
-      )
+    -- and so are the reports and look-ups
+    pub calls_opened : (slot : ℕ) → OpensAt settled slot rows → (cs : List Call)
+        → let b : Opening = open_receiver_bytes settings slot state rows in
+        let r : OpenedReceiver = open_receiver_of settled slot rows in
+        (b.reply ≡ 0) × SameCalls (calls r.receiver r.rows cs) (calls_bytes slot b.state b.rows cs)
+    calls_opened slot opens cs =
+        let b : Opening = open_receiver_bytes settings slot state rows in
+        let y : Receiver = (open_receiver_of settled slot rows).receiver in
+        let (reply, same, keeps) = opened_receiver_read settings slot state rows opens room in (
+          reply,
+          subst (λ (l : List ℕ). SameCalls (calls y l cs) (calls_bytes slot b.state b.rows cs)) same
+              (calls_read cs slot b.state b.rows y keeps
+              (ap (λ (r : OpenedReceiver). r.receiver.due) (reporting.opened_receiver_lem settled slot rows opens))),
+        )
 
-  pub reports_opened : (slot : ℕ) → OpensAt settled slot rows → (cs : List Report)
-      → let b : Opening = open_receiver_bytes settings slot state rows in
-      let r : OpenedReceiver = open_receiver_of settled slot rows in
-      (b.reply ≡ 0) × Forall₂ SameReport (reports r.receiver r.rows cs) (reports_bytes slot b.state b.rows cs)
-  reports_opened slot opens cs =
-      let b : Opening = open_receiver_bytes settings slot state rows in
-      let r : OpenedReceiver = open_receiver_of settled slot rows in
-      let (reply, same) = calls_opened slot opens (map report cs) in
-      (reply, rw (← without_look_ups r.receiver r.rows cs, ← alone cs slot b.state b.rows) same.told)
+    pub reports_opened : (slot : ℕ) → OpensAt settled slot rows → (cs : List Report)
+        → let b : Opening = open_receiver_bytes settings slot state rows in
+        let r : OpenedReceiver = open_receiver_of settled slot rows in
+        (b.reply ≡ 0) × Forall₂ SameReport (reports r.receiver r.rows cs) (reports_bytes slot b.state b.rows cs)
+    reports_opened slot opens cs =
+        let b : Opening = open_receiver_bytes settings slot state rows in
+        let r : OpenedReceiver = open_receiver_of settled slot rows in
+        let (reply, same) = calls_opened slot opens (map report cs) in
+        (reply, rw (← without_look_ups r.receiver r.rows cs, ← alone cs slot b.state b.rows) same.told)

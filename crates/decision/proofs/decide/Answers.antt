@@ -48,9 +48,11 @@ returns-then-rows-receiver_len c =
 pub decided-requires : goal.decided-requires
 decided-requires c =
     let ok = passed c.args.s _ c.accepted.ensures c.if-not-accepted.false in
-    let full = c.if-rows-receiver_len.false ∙ c.receiver_len.ensures in
-    (record { settings = ok; rows_exact = full; slot_fits = omega arith }, omega arith,
-    c.if-message-message_len.false ∙ c.message_len.ensures)
+    let full = c.if-rows-receiver_len.false ∙ c.receiver_len.ensures in (
+      record { settings = ok; rows_exact = full; slot_fits = omega arith },
+      omega arith,
+      c.if-message-message_len.false ∙ c.message_len.ensures,
+    )
 
 pub returns : goal.returns
 returns c =
