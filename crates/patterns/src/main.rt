@@ -1,5 +1,6 @@
 // Random patterns of loss for all accepted T, B and N: what elimination says of one symbol of each.
-// reference/PATTERNS.md says what is drawn and printed.
+// reference/PATTERNS.md says what is drawn and printed. One lane and accepted settings are asked where they are used: what is called takes
+// settings.
 #![tactic(auto)]
 
 mod word;
