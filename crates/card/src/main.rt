@@ -1,7 +1,6 @@
 // Document 01's figures 9 to 12, run on both ends with one lane and then with three, document 02's example of a short window, and two lanes
 // whose parity differs: a line for each, in which every lent byte begins as 7. Of the three lanes, lane 1 has α times the messages of
 // lane 0, and lane 2 has them a slot later. The lengths of rows are written out here, worked out by hand: a wrong one would be refused.
-// At most three lanes are asked of each step: the settings that it takes may have more.
 #![tactic(auto)]
 
 ghost use Rattle.std.specs.Prelude.{◌≡◌, ◌≤◌};

@@ -1,6 +1,5 @@
 // Random patterns of loss for all accepted T, B and N: what elimination says of one symbol of each.
-// reference/PATTERNS.md says what is drawn and printed. One lane and accepted settings are asked where they are used: what is called takes
-// settings.
+// reference/PATTERNS.md says what is drawn and printed.
 #![tactic(auto)]
 
 mod word;
