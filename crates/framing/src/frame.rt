@@ -5,6 +5,7 @@ ghost use Rattle.protocol.specs.Frame.{frame_of};
 ghost use Rattle.protocol.specs.Lengths.{message_len, frame_len, sender_len};
 
 use code::Settings;
+use copying::write_at;
 use frames::header_bytes;
 use parity::write_parities;
 
@@ -25,6 +26,6 @@ pub fn write_frame(
     let (head, body) = frame.split_at_mut(14);
     head.copy_from_slice(&header_bytes(version, s, due));
     let (sources, parities) = body.split_at_mut(message.len());
-    sources.copy_from_slice(message);
+    write_at(sources, 0, message);
     write_parities(parities, rows, s, due);
 }

@@ -5,6 +5,7 @@ ghost use Rattle.protocol.specs.Lengths.{message_len, sender_len};
 ghost use Rattle.protocol.specs.Rows.{put_row};
 
 use code::Settings;
+use copying::write_at;
 
 // Writes the message of the slot due over its row.
 #[tactic(auto, using(code::proofs::Shape::shape))]
@@ -14,5 +15,5 @@ pub fn remember(rows: &mut [u8], message: &[u8], s: Settings, due: u32)
 {
     let row = due as usize % (s.symbols() - 1);
     let start = row * message.len();
-    rows[start..start + message.len()].copy_from_slice(message);
+    write_at(rows, start, message);
 }

@@ -8,8 +8,8 @@ ghost use Rattle.code.specs.Settings.{accepted};
 ghost use Rattle.protocol.specs.Lengths.{sender_len};
 ghost use Rattle.parity.specs.Parities.{parities_of};
 
-use buffers::write_at;
 use code::Settings;
+use copying::write_at;
 use encoder::systematic;
 use sources::gather;
 use vectors::weighted;

@@ -9,8 +9,9 @@ ghost use Rattle.protocol.specs.Lengths.{frame_len, row_len, row_count, receiver
 ghost use Rattle.protocol.specs.Rows.{put_row};
 ghost use Rattle.ring.specs.Bytes.{opened_byte};
 
-use buffers::{row_count, row_len, write_at};
+use buffers::{row_count, row_len};
 use code::Settings;
+use copying::write_at;
 
 // Byte q of rows of this size, those below row `lost` being zeros, and the others received zeros.
 fn opened_byte(q: usize, size: usize, lost: u32) -> u8

@@ -10,6 +10,7 @@ use Rattle.code.specs.Settings.{accepted, k_of}
 use Rattle.code.proofs.Shape.{Shape, shape}
 use Rattle.protocol.specs.Frame.{frame_of}
 use Rattle.protocol.specs.Lengths.{message_len, body_len, frame_len}
+use Rattle.copying.proofs.Whole.{whole}
 use Rattle.framing.proofs.Bodies.{body_split}
 use Rattle.framing.proofs.frame.write_frame.Goals as goal
 
@@ -40,5 +41,5 @@ unfolding frame_of
 returns c =
     let a = c.args in
     ap₂ ◌++◌ (c.copy_from_slice.ensures.after ∙ c.header_bytes.ensures)
-    (ap₂ ◌++◌ c.copy_from_slice-2.ensures.after c.write_parities.ensures
+    (ap₂ ◌++◌ (c.write_at.ensures ∙ whole _ _ (omega (arith, parts a.s _ _ c.requires.0 c.requires.2 c.requires.3))) c.write_parities.ensures
     ∙ body_split a.s a.rows.now a.message.now a.due (shape a.s c.requires.0) c.requires.2)

@@ -5,9 +5,7 @@ use native.Mathlib.Nat.{mod-lt}
 use native.Mathlib.Omega.{arith}
 use Prim.Native.Nat.{ℕ, ◌+◌, ◌-◌, ◌*◌, ◌%◌, ◌≤◌, ◌<◌}
 use lib.Dec.{T}
-use lib.ListN.{length, take, drop}
-use borrow.Rule.Slice.PartMut.{put_mid}
-use Rattle.std.proofs.lemmas.Grind.{common_steps}
+use lib.ListN.{take, drop}
 use Rattle.code.specs.declared.settings.Settings.{Settings}
 use Rattle.code.specs.Settings.{accepted, n_of}
 use Rattle.code.proofs.Shape.{Shape, shape}
@@ -28,22 +26,14 @@ placed s due symbols size passed is exact =
 pub overflow_mul-start : goal.overflow_mul-start
 overflow_mul-start c = omega (arith, placed c.args.s c.args.due c.symbols.result _ c.requires.0 c.symbols.ensures c.requires.2)
 
-pub overflow_add-start : goal.overflow_add-start
-overflow_add-start c = omega (arith, placed c.args.s c.args.due c.symbols.result _ c.requires.0 c.symbols.ensures c.requires.2)
-
-pub slice_bounds-copy_from_slice-end : goal.slice_bounds-copy_from_slice-end
-slice_bounds-copy_from_slice-end c =
-    omega (arith, placed c.args.s c.args.due c.symbols.result _ c.requires.0 c.symbols.ensures c.requires.2)
+pub write_at-requires : goal.write_at-requires
+write_at-requires c = omega (arith, placed c.args.s c.args.due c.symbols.result _ c.requires.0 c.symbols.ensures c.requires.2)
 
 pub returns : goal.returns
 unfolding put_row
 returns c =
     let a = c.args in
-    let start : ℕ = a.due % (c.symbols.result - 1) * length a.message.now in
-    let end : ℕ = start + length a.message.now in
-    let written : put_mid start (end - start) a.rows.now c.copy_from_slice.new.self
-    ≡ take start a.rows.now ++ a.message.now ++ drop end a.rows.now = grind (arith, common_steps) in
-    written
+    c.write_at.ensures
     ∙ ap₂
     (λ (n m : ℕ). take (a.due % (n - 1) * m) a.rows.now ++ a.message.now ++ drop (a.due % (n - 1) * m + m) a.rows.now)
     c.symbols.ensures c.requires.2

@@ -11,6 +11,7 @@ use Rattle.gathering.specs.Pairs.{pairs_of}
 use Rattle.vectors.specs.Weighted.{weighted_of}
 use Rattle.code.specs.Settings.{k_of}
 use Rattle.code.proofs.Shape.{shape}
+use Rattle.copying.proofs.Whole.{whole}
 use Rattle.lanes.proofs.symbol.write_sum.Goals as goal
 
 pub slice_bounds-sum-end : goal.slice_bounds-sum-end
@@ -19,14 +20,14 @@ slice_bounds-sum-end c =
     let long : length c.sum_at-sum.result ≡ 64 = search rules in
     omega (arith, (shape words.s words.settings).lanes_few)
 
-pub slice_bounds-copy_from_slice-end : goal.slice_bounds-copy_from_slice-end
-slice_bounds-copy_from_slice-end c =
+pub slice_bounds-write_at-end : goal.slice_bounds-write_at-end
+slice_bounds-write_at-end c =
     let words = c.args.vectors.now.words in
     let long : length c.sum_at-sum.result ≡ 64 = search rules in
     sym (length-take-le words.s.lanes c.sum_at-sum.result (omega (arith, (shape words.s words.settings).lanes_few)))
 
-pub copy_from_slice-requires : goal.copy_from_slice-requires
-copy_from_slice-requires c =
+pub write_at-requires : goal.write_at-requires
+write_at-requires c =
     let words = c.args.vectors.now.words in
     let long : length c.sum_at-sum.result ≡ 64 = search rules in
     omega (arith, length-take-le words.s.lanes c.sum_at-sum.result (omega (arith, (shape words.s words.settings).lanes_few)))
@@ -37,7 +38,7 @@ returns c =
     let s = vectors.words.s in
     let long : length c.sum_at-sum.result ≡ 64 = search rules in
     let front = length-take-le s.lanes c.sum_at-sum.result (omega (arith, (shape s vectors.words.settings).lanes_few)) in
-    c.copy_from_slice.ensures.after
+    c.write_at.ensures ∙ whole _ _ (c.requires.1 ∙ sym front)
     ∙ is_table s.lanes (λ v. get_or (weighted_of c.args.rows.now c.args.i vectors.table.now (pairs_of (k_of s))) v 0) 0
     (take s.lanes c.sum_at-sum.result) front
     (λ v lane. get_or-take s.lanes c.sum_at-sum.result v 0 lane ∙ ap (λ (l : List ℕ). get_or l v 0) c.sum_at-sum.ensures)
