@@ -41,13 +41,14 @@ fn generator_row(s: Settings, row: usize) -> [u8; 16]
     array::from_fn(|j| entry(s, row, j, products[j]))
 }
 
-// G, in an array of 16 rows.
+// G, in an array of 16 rows, of which those past the last stay zeros. By array::from_fn the whole array would stand on the stack three
+// times, and the archive's header promises less.
 pub fn generator(s: Settings) -> [[u8; 16]; 16]
     ensures { result ≡ generator_of s }
 {
-    array::from_fn(
-        |i|
-            ensures { result ≡ table 16 (λ j. entry s i j) }
-        { generator_row(s, i) },
-    )
+    let mut rows = [[0; 16]; 16];
+    for i in 0..s.sources().min(16) {
+        rows[i] = generator_row(s, i);
+    }
+    rows
 }

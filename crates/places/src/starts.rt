@@ -39,33 +39,28 @@ fn next_start(s: Settings, start: usize) -> usize
 }
 
 // The symbols of the codewords that start at slot t - i, by the rows of the slots below `end`: a known source is the pivot of its own
-// row, and a known parity position has a flag.
-pub fn locate(s: Settings, rows: &[u8], end: usize, t: usize, i: usize) -> Located
+// row, and a known parity position has a flag. They are written where they are lent: returned they would be copied twice for each symbol.
+pub fn locate(s: Settings, rows: &[u8], end: usize, t: usize, i: usize, located: &mut Located)
     requires { Ready s rows.now t × (i < k_of s) }
-    ensures places { result.places ≡ places_of s t i }
-    ensures flags { result.flags ≡ parity_flags s (flags_of s rows.now end t i) }
-    ensures roles { result.roles ≡ first_roles s (known_in s (flags_of s rows.now end t i)) }
+    ensures places { located.new.places ≡ places_of s t i }
+    ensures flags { located.new.flags ≡ parity_flags s (flags_of s rows.now end t i) }
+    ensures roles { located.new.roles ≡ first_roles s (known_in s (flags_of s rows.now end t i)) }
 {
-    let mut places = [0; 16];
-    let mut flags = [0; 16];
-    let mut roles = [16; 16];
+    located.places = [0; 16];
+    located.flags = [0; 16];
+    located.roles = [16; 16];
     let mut start = first_start(s, t, i);
     let mut offset = 1;
     for p in 0..s.symbols() {
-        places[p] = start + offset;
+        located.places[p] = start + offset;
         if is_known(rows, end, t + p, start) {
             if p < s.sources() {
-                roles[p] = p as u8;
+                located.roles[p] = p as u8;
             } else {
-                flags[p] = 1;
+                located.flags[p] = 1;
             }
         }
         start = next_start(s, start);
         offset += s.lanes as usize;
-    }
-    Located {
-        places,
-        flags,
-        roles,
     }
 }

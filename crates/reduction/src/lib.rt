@@ -15,18 +15,21 @@ use gf256::ReciprocalTable;
 pub fn eliminate(
     s: Settings,
     reciprocals: &ReciprocalTable,
-    start: Reduced,
+    matrix: [[u8; 16]; 16],
+    roles: [u8; 16],
     flags: &mut [u8; 16],
 ) -> Reduced
-    ensures reduced { result ≡ reduced_from s start flags.old }
-    ensures left { flags.new ≡ left_from s start flags.old }
+    ensures reduced { result ≡ reduced_from s (record { rows = matrix; roles = roles }) flags.old }
+    ensures left { flags.new ≡ left_from s (record { rows = matrix; roles = roles }) flags.old }
 {
-    if !s.accepted() {
-        return start;
-    }
-    let mut reduced = start;
-    for p in s.sources()..s.symbols() {
-        flags[p] = column_step(&mut reduced, flags[p], p, s.sources(), reciprocals);
+    let mut reduced = Reduced {
+        rows: matrix,
+        roles,
+    };
+    if s.accepted() {
+        for p in s.sources()..s.symbols() {
+            flags[p] = column_step(&mut reduced, flags[p], p, s.sources(), reciprocals);
+        }
     }
     reduced
 }

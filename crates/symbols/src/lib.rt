@@ -8,10 +8,10 @@ ghost use Rattle.places.specs.Places.{Ready};
 ghost use Rattle.symbols.specs.Decision.{Told};
 
 use code::Settings;
-use elimination::{Grade, Reduced};
+use elimination::Grade;
 use gf256::ReciprocalTable;
 use lanes::answer;
-use places::locate;
+use places::{Located, locate};
 use reduction::eliminate;
 use shares::Codewords;
 
@@ -31,17 +31,17 @@ pub fn write_symbol(
     ensures told { Told s rows.now due t i result out.new }
     ensures kept { result ≢ Grade.Whole → out.new ≡ out.old }
 {
-    let located = locate(s, rows, due + i, t, i);
-    let mut flags = located.flags;
-    let start = Reduced {
-        rows: matrix,
-        roles: located.roles,
+    let mut located = Located {
+        places: [0; 16],
+        flags: [0; 16],
+        roles: [16; 16],
     };
-    let reduced = eliminate(s, reciprocals, start, &mut flags);
+    locate(s, rows, due + i, t, i, &mut located);
+    let reduced = eliminate(s, reciprocals, matrix, located.roles, &mut located.flags);
     let words = Codewords {
         s,
         places: &located.places,
         bytes: rows,
     };
-    answer(&words, &reduced, &flags, i, out)
+    answer(&words, &reduced, &located.flags, i, out)
 }

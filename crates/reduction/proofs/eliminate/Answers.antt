@@ -15,18 +15,18 @@ use Rattle.elimination.proofs.LeftFlags.{left_accepted, left_kept}
 use Rattle.reduction.proofs.Parities.{reduced_refused, left_refused, columns_more, left_more}
 use Rattle.reduction.proofs.eliminate.Goals as goal
 
-pub returns-then-not-accepted : goal.returns-then-not-accepted
-returns-then-not-accepted c =
-    let refused : accepted c.args.s ≡ false = sym c.accepted.ensures ∙ c.if-not-accepted.true in
+pub returns-else-accepted : goal.returns-else-accepted
+returns-else-accepted c =
+    let refused : accepted c.args.s ≡ false = sym c.accepted.ensures ∙ c.if-accepted.false in
     record {
-      reduced = reduced_refused c.args.s c.args.start c.args.flags.now refused;
-      left = left_refused c.args.s c.args.start c.args.flags.now refused;
+      reduced = reduced_refused c.args.s (record { rows = c.args.matrix; roles = c.args.roles }) c.args.flags.now refused;
+      left = left_refused c.args.s (record { rows = c.args.matrix; roles = c.args.roles }) c.args.flags.now refused;
     }
 
 pub loop-p-init : goal.loop-p-init
 unfolding columns left_after
 loop-p-init c =
-    let passed : accepted c.args.s ≡ true = sym c.accepted.ensures ∙ c.if-not-accepted.false in
+    let passed : accepted c.args.s ≡ true = sym c.accepted.ensures ∙ c.if-accepted.true in
     let none : c.sources-p.result - k_of c.args.s ≡ 0 = omega arith in
     record { shaped = shape c.args.s (subst⁻¹ T passed tt); reduced = rw none refl; left = rw none refl }
 
@@ -37,7 +37,7 @@ column_step-requires c =
 pub loop-p-preserved : goal.loop-p-preserved
 loop-p-preserved c =
     let p : ℕ = c.loop-p.p in
-    let x : Reduced = c.args.start in
+    let x : Reduced = (record { rows = c.args.matrix; roles = c.args.roles }) in
     let flag : ℕ = get_or c.loop-p.flags p 0 in
     let past : k_of c.args.s ≤ p = omega arith in
     let same : flag ≡ get_or c.args.flags.now p 0 =
@@ -54,10 +54,10 @@ loop-p-preserved c =
           ∙ left_more c.args.s x c.args.flags.now p flag past (omega arith) same;
     }
 
-pub returns : goal.returns
-returns c =
-    let x : Reduced = c.args.start in
-    let passed : accepted c.args.s ≡ true = sym c.accepted.ensures ∙ c.if-not-accepted.false in
+pub returns-after-loop-p : goal.returns-after-loop-p
+returns-after-loop-p c =
+    let x : Reduced = (record { rows = c.args.matrix; roles = c.args.roles }) in
+    let passed : accepted c.args.s ≡ true = sym c.accepted.ensures ∙ c.if-accepted.true in
     let all : c.loop-p.p - k_of c.args.s ≡ c.args.s.burst = omega (arith, c.loop-p.invariant.shaped) in
     record {
       reduced = c.loop-p.invariant.reduced ∙ ap (columns c.args.s (known_in c.args.s c.args.flags.now) x) all

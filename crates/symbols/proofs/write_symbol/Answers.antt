@@ -31,13 +31,13 @@ answer-requires c =
     let flags : List ℕ = flags_of s c.args.rows.now (c.args.due + c.args.i) c.args.t c.args.i in
     let reduced : c.eliminate-reduced.result ≡ reduced_of s flags =
     c.eliminate-reduced.ensures.reduced
-    ∙ located_eliminated s passed flags _ _ _ c.requires.3 c.locate-located.ensures.flags c.locate-located.ensures.roles
+    ∙ located_eliminated s passed flags _ _ _ c.requires.3 c.locate.ensures.flags c.locate.ensures.roles
     ∙ eliminated_reduced s flags (is_true _ passed) in (
       c.requires.2,
       c.requires.4,
       subst⁻¹ (λ (x : Reduced). Own s x c.args.i) reduced (own_reduced s c.args.i c.requires.2 passed flags),
       subst⁻¹ (ParityOnly s) c.eliminate-reduced.ensures.left
-          (located_only s passed flags _ _ _ c.requires.3 c.locate-located.ensures.flags c.locate-located.ensures.roles),
+          (located_only s passed flags _ _ _ c.requires.3 c.locate.ensures.flags c.locate.ensures.roles),
     )
 
 pub returns : goal.returns
@@ -53,11 +53,11 @@ returns c =
     let small : (q : ℕ) → _ = λ q. (c.type_inv.rows q).fits in
     let left_by : Unsolved s flags x.roles left =
     subst⁻¹ (Unsolved s flags x.roles) c.eliminate-reduced.ensures.left
-    (located_left s passed flags _ _ _ c.requires.3 c.locate-located.ensures.flags c.locate-located.ensures.roles
+    (located_left s passed flags _ _ _ c.requires.3 c.locate.ensures.flags c.locate.ensures.roles
     (λ q source. flag_cases s passed rows c.args.due c.args.t c.args.i q (omega arith))) in
     let reduced : c.eliminate-reduced.result ≡ x =
     c.eliminate-reduced.ensures.reduced
-    ∙ located_eliminated s passed flags _ _ _ c.requires.3 c.locate-located.ensures.flags c.locate-located.ensures.roles in
+    ∙ located_eliminated s passed flags _ _ _ c.requires.3 c.locate.ensures.flags c.locate.ensures.roles in
     let both_told =
     told_and_kept s rows c.args.due c.args.t c.args.i x left places h.lanes_positive
     (λ v.
@@ -65,15 +65,15 @@ returns c =
     ∙ lane_said s passed rows c.args.due c.args.t c.args.i small c.requires.2 v)
     c.answer.result c.args.out.now _
     (c.answer.ensures
-    ∙ ap (λ (x : Reduced). lanes_said s x left c.locate-located.result.places rows c.args.i c.args.out.now) reduced
-    ∙ ap (λ (l : List ℕ). lanes_said s x left l rows c.args.i c.args.out.now) c.locate-located.ensures.places) in
+    ∙ ap (λ (x : Reduced). lanes_said s x left c.locate.new.located.places rows c.args.i c.args.out.now) reduced
+    ∙ ap (λ (l : List ℕ). lanes_said s x left l rows c.args.i c.args.out.now) c.locate.ensures.places) in
     record { told = both_told.0; kept = both_told.1 }
 
 pub invariant_of-words : goal.invariant_of-words
 invariant_of-words c = record {
   settings = c.requires.0.settings;
   inside = λ p below.
-      subst⁻¹ (λ (l : List ℕ). get_or l p 0 + c.args.s.lanes ≤ length c.args.rows.now) c.locate-located.ensures.places
+      subst⁻¹ (λ (l : List ℕ). get_or l p 0 + c.args.s.lanes ≤ length c.args.rows.now) c.locate.ensures.places
       (omega (
         arith,
         c.requires.0.rows_exact,

@@ -16,6 +16,7 @@ use Rattle.code.specs.Settings.{k_of, n_of}
 use Rattle.code.proofs.Shape.{shape}
 use Rattle.elimination.proofs.Roles.{first_flags}
 use Rattle.protocol.specs.Lengths.{row_len, receiver_len}
+use Rattle.places.specs.declared.starts.Located.{Located}
 use Rattle.places.specs.Places.{places_to, places_of, known_flag, flags_of, parity_flags}
 use Rattle.places.proofs.Filled.{up_to, filled_none, filled_kept, filled_next, filled_all}
 use Rattle.places.proofs.Places.{place_of, row_ends, row_next, first_inside, row_at_few}
@@ -35,8 +36,8 @@ loop-p-init c =
       roled = filled_none 16 0 (first_role s read) (λ q none. omega arith);
     }
 
-pub overflow_add-places : goal.overflow_add-places
-overflow_add-places c =
+pub overflow_add-located : goal.overflow_add-located
+overflow_add-located c =
     let few : c.loop-p.p ≤ 16 = omega (arith, c.loop-p.invariant.shaped) in
     omega (
       arith,
@@ -70,33 +71,39 @@ loop-p-preserved c =
     let is : cond c.is_known.result 1 0 ≡ get_or read p 0 =
     c.is_known.ensures ∙ ap (known_flag c.args.rows.now c.args.end (c.args.t + p)) c.loop-p.invariant.starts
     ∙ sym (flag_at s h c.args.t c.args.i p (omega arith) c.args.rows.now c.args.end) in
+    let placed =
+    filled_next 0 p (place_of s c.args.t c.args.i) c.loop-p.located.places (c.loop-p.start + c.loop-p.offset) few
+    c.loop-p.invariant.placed (omega (arith, c.loop-p.invariant.starts, c.loop-p.invariant.offsets)) in
     let next : ℕ → ℕ = λ row. cond (ltb (row + row_len s) (receiver_len s)) (row + row_len s) 0 in
     record {
       shaped = h;
       starts = c.next_start-start.ensures ∙ ap next c.loop-p.invariant.starts ∙ row_next s h c.args.t c.args.i p c.requires.1;
       offsets = rw (add-one p) (omega (arith, c.loop-p.invariant.offsets, suc-mul p s.lanes));
-      placed = filled_next 0 p (place_of s c.args.t c.args.i) c.loop-p.places (c.loop-p.start + c.loop-p.offset) few
-          c.loop-p.invariant.placed (omega (arith, c.loop-p.invariant.starts, c.loop-p.invariant.offsets));
+      placed = elim c.if-is_known.branch [
+        | then-is_known+then-p-sources w ↦ ap (λ (x : Located). x.places) w.located-is ∙ placed
+        | then-is_known+else-p-sources w ↦ ap (λ (x : Located). x.places) w.located-is ∙ placed
+        | else-is_known w ↦ ap (λ (x : Located). x.places) w.located-is ∙ placed
+      ];
       flagged = elim c.if-is_known.branch [
-        | then-is_known+then-p-sources w ↦ w.flags-is ∙ c.loop-p.invariant.flagged
+        | then-is_known+then-p-sources w ↦ ap (λ (x : Located). x.flags) w.located-is ∙ c.loop-p.invariant.flagged
             ∙ filled_kept 0 p (parity_flag s read) (rw (lt-ltb p (k_of s) (omega arith)))
-        | then-is_known+else-p-sources w ↦ w.flags-is
-            ∙ filled_next 0 p (parity_flag s read) c.loop-p.flags 1 few c.loop-p.invariant.flagged
+        | then-is_known+else-p-sources w ↦ ap (λ (x : Located). x.flags) w.located-is
+            ∙ filled_next 0 p (parity_flag s read) c.loop-p.located.flags 1 few c.loop-p.invariant.flagged
             (rw (le-ltb p (k_of s) (omega arith)) (sym (ap (λ (b : Bool). cond b 1 0) w.if-is_known.true) ∙ is))
-        | else-is_known w ↦ w.flags-is ∙ c.loop-p.invariant.flagged
+        | else-is_known w ↦ ap (λ (x : Located). x.flags) w.located-is ∙ c.loop-p.invariant.flagged
             ∙ filled_kept 0 p (parity_flag s read)
             (⊎_elim
             (λ past. rw (le-ltb p (k_of s) past) (sym is ∙ ap (λ (b : Bool). cond b 1 0) w.if-is_known.false))
             (λ source. rw (lt-ltb p (k_of s) source)) (le_or_lt (k_of s) p))
       ];
       roled = elim c.if-is_known.branch [
-        | then-is_known+then-p-sources w ↦ w.roles-is
-            ∙ filled_next 16 p (first_role s read) c.loop-p.roles p few c.loop-p.invariant.roled
+        | then-is_known+then-p-sources w ↦ ap (λ (x : Located). x.roles) w.located-is
+            ∙ filled_next 16 p (first_role s read) c.loop-p.located.roles p few c.loop-p.invariant.roled
             (let one : get_or read p 0 ≡ 1 = sym is ∙ ap (λ (b : Bool). cond b 1 0) w.if-is_known.true in
             rw (lt-ltb p (k_of s) (omega arith), eq-eqb (get_or read p 0) 1 one))
-        | then-is_known+else-p-sources w ↦ w.roles-is ∙ c.loop-p.invariant.roled
+        | then-is_known+else-p-sources w ↦ ap (λ (x : Located). x.roles) w.located-is ∙ c.loop-p.invariant.roled
             ∙ filled_kept 16 p (first_role s read) (rw (le-ltb p (k_of s) (omega arith)))
-        | else-is_known w ↦ w.roles-is ∙ c.loop-p.invariant.roled
+        | else-is_known w ↦ ap (λ (x : Located). x.roles) w.located-is ∙ c.loop-p.invariant.roled
             ∙ filled_kept 16 p (first_role s read)
             (let nought : get_or read p 0 ≡ 0 = sym is ∙ ap (λ (b : Bool). cond b 1 0) w.if-is_known.false in
             rw (ne_eqb (get_or read p 0) 1 (λ one. omega arith), and-false (ltb p (k_of s))))

@@ -16,7 +16,7 @@ invariant-loop-p l = record {
   shaped : Shape l.s;
   starts : l.start ≡ row_at l.s l.t l.i l.p;
   offsets : l.offset ≡ 1 + l.p * l.s.lanes;
-  placed : l.places ≡ table 16 (up_to 0 l.p (place_of l.s l.t l.i));
-  flagged : l.flags ≡ table 16 (up_to 0 l.p (parity_flag l.s (flags_of l.s l.rows l.end l.t l.i)));
-  roled : l.roles ≡ table 16 (up_to 16 l.p (first_role l.s (flags_of l.s l.rows l.end l.t l.i)));
+  placed : l.located.places ≡ table 16 (up_to 0 l.p (place_of l.s l.t l.i));
+  flagged : l.located.flags ≡ table 16 (up_to 0 l.p (parity_flag l.s (flags_of l.s l.rows l.end l.t l.i)));
+  roled : l.located.roles ≡ table 16 (up_to 16 l.p (first_role l.s (flags_of l.s l.rows l.end l.t l.i)));
 }
