@@ -7,7 +7,7 @@ ghost use Rattle.joiner.specs.Places.{frames_met};
 use crate::overlap::unlike;
 use crate::recorded::Recorded;
 use crate::search::Ordered;
-use crate::walk::Faults;
+use crate::walk::{Faults, walked};
 use aerials::PairCause;
 use buffers::frame_len;
 use code::Settings;
@@ -56,7 +56,7 @@ pub fn pair_cause(s: Settings, first: &[u8], second: &[u8]) -> Result<(), PairCa
     if one.unfit() || two.unfit() {
         return Err(PairCause::BadLength);
     }
-    frames_met(one.faults(), two.faults())?;
+    frames_met(walked(s, first), walked(s, second))?;
     if unlike(Ordered::new(s, first), Ordered::new(s, second)) {
         return Err(PairCause::Unlike);
     }

@@ -87,8 +87,8 @@ returns-then-unfit c =
 
 pub returns-in_err-frames_met : goal.returns-in_err-frames_met
 returns-in_err-frames_met c =
-    let a = c.faults.ensures in
-    let b = c.faults-2.ensures in
+    let a = c.walked.ensures in
+    let b = c.walked-2.ensures in
     let p = err_from_is_err_and c.from_residual.result c.from_residual.ensures.1 in
     let is = p.1 ∙ ap Err p.2 ∙ stopped _ _ _ _ _ _ _ _ _ c.accepted.ensures c.unfit.ensures c.unfit-else-unfit.ensures
     c.if-not-accepted.false c.if-unfit.false c.if-unfit-2.false c.frames_met.ensures a.mark b.mark a.settings b.settings
@@ -97,24 +97,24 @@ returns-in_err-frames_met c =
 
 pub new-requires : goal.new-requires
 new-requires c =
-    let a = c.faults.ensures in
-    let b = c.faults-2.ensures in
+    let a = c.walked.ensures in
+    let b = c.walked-2.ensures in
     one_rises _ _ _ _ _ _ _ _ _ c.accepted.ensures c.unfit.ensures c.unfit-else-unfit.ensures
     c.if-not-accepted.false c.if-unfit.false c.if-unfit-2.false c.frames_met.ensures a.mark b.mark a.settings b.settings
     a.falling b.falling c.in_ok-frames_met.was
 
 pub new-requires-2 : goal.new-requires-2
 new-requires-2 c =
-    let a = c.faults.ensures in
-    let b = c.faults-2.ensures in
+    let a = c.walked.ensures in
+    let b = c.walked-2.ensures in
     two_rises _ _ _ _ _ _ _ _ _ c.accepted.ensures c.unfit.ensures c.unfit-else-unfit.ensures
     c.if-not-accepted.false c.if-unfit.false c.if-unfit-2.false c.frames_met.ensures a.mark b.mark a.settings b.settings
     a.falling b.falling c.in_ok-frames_met.was
 
 pub returns-then-unlike : goal.returns-then-unlike
 returns-then-unlike c =
-    let a = c.faults.ensures in
-    let b = c.faults-2.ensures in
+    let a = c.walked.ensures in
+    let b = c.walked-2.ensures in
     let is = compared _ _ _ _ _ _ _ _ _ c.accepted.ensures c.unfit.ensures c.unfit-else-unfit.ensures
     c.if-not-accepted.false c.if-unfit.false c.if-unfit-2.false c.frames_met.ensures a.mark b.mark a.settings b.settings
     a.falling b.falling c.in_ok-frames_met.was
@@ -123,8 +123,8 @@ returns-then-unlike c =
 
 pub returns : goal.returns
 returns c =
-    let a = c.faults.ensures in
-    let b = c.faults-2.ensures in
+    let a = c.walked.ensures in
+    let b = c.walked-2.ensures in
     let is = compared _ _ _ _ _ _ _ _ _ c.accepted.ensures c.unfit.ensures c.unfit-else-unfit.ensures
     c.if-not-accepted.false c.if-unfit.false c.if-unfit-2.false c.frames_met.ensures a.mark b.mark a.settings b.settings
     a.falling b.falling c.in_ok-frames_met.was
